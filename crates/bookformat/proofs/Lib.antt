@@ -1,0 +1,10 @@
+pub mod Faults
+pub mod Silence
+pub mod Parts
+pub mod Tests
+pub mod Records
+pub mod Charts
+pub mod Links
+pub mod Books
+pub mod Taken
+pub mod GoodTaken

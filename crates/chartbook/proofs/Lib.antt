@@ -1,0 +1,9 @@
+pub mod Parts
+pub mod Exits
+pub mod Intervals
+pub mod ChartTests
+pub mod HeaderTests
+pub mod ChartLists
+pub mod LinkTests
+pub mod ReadLaws
+pub mod BookTests

@@ -1,0 +1,4 @@
+pub mod Records
+pub mod Answers
+pub mod Headers
+pub mod Reads
