@@ -16,10 +16,11 @@ use Rattle.bookformat.specs.Values.{ChartValue}
 use Rattle.bookformat.specs.Encoding.{joined, finalByte, eventBytes, constraintBytes, chartBytes}
 use Rattle.bookformat.specs.Rules.{event, noEvent, noConstraint, DirectlyBefore, Proper, GoodChart}
 use Rattle.bookformat.specs.Layout.{byte, eventAt, constraintAt, records, eventsAt, constraintsPlace, chartAt}
-use Rattle.bookformat.specs.Reading.{Test, firstFault, between, headTests, eventTests, pairTests, constraintTests, chartEvents, chartPairs, chartConstraints, chartTests}
+use Rattle.bookformat.specs.Reading.{Test, firstFault, between, headTests, eventTests, pairTests, constraintTests, chartEvents, chartPairs, chartConstraints, orderTests, chartTests}
 use Rattle.bookformat.specs.Laws.{Octets}
 use Rattle.bookformat.proofs.Faults.{none-left, none-right, none-join, each-none, each-at, Passes, passes, passed}
 use Rattle.bookformat.proofs.Parts.{Starts, starts-cons, starts-head, starts-tail, starts-join}
+use Rattle.bookformat.proofs.Orders.{decides-acyclic}
 use Rattle.bookformat.proofs.Tests.{decides-before, decides-paired, decides-proper}
 use Rattle.bookformat.proofs.Records.{final-bytes, final-most, final-read, event-starts, event-read, event-kind, constraint-starts, constraint-read, length-joined, records-starts, records-length, records-places, records-read, records-at, records-count}
 
@@ -42,11 +43,15 @@ pub record ChartPasses (b : List ℕ) (stations i : ℕ) : Type 0 where
   pub events : (k : ℕ) → k < byte b i → Passes (ofEvent b stations i k)
   pub pairs : (k : ℕ) → k < byte b i → Passes (ofPair b i k)
   pub constraints : (k : ℕ) → k < byte b (i + 1) → Passes (ofConstraint b i k)
+  pub order : Passes (orderTests (eventsAt b i) i)
 
 module _ (b : List ℕ) (stations i : ℕ) where
   -- the tests from the pairings on, and from the events on
+  abbrev fromConstraints : List Test
+  fromConstraints = chartConstraints b i ++ orderTests (eventsAt b i) i
+
   abbrev fromPairs : List Test
-  fromPairs = chartPairs b i ++ chartConstraints b i
+  fromPairs = chartPairs b i ++ fromConstraints
 
   abbrev fromEvents : List Test
   fromEvents = chartEvents b stations i ++ fromPairs
@@ -55,20 +60,22 @@ module _ (b : List ℕ) (stations i : ℕ) where
   chart-passes none =
       let events = none-right (headTests b i) fromEvents none in
       let pairs = none-right (chartEvents b stations i) fromPairs events in
-      let constraints = none-right (chartPairs b i) (chartConstraints b i) pairs in
+      let constraints = none-right (chartPairs b i) fromConstraints pairs in
       record {
         head = passes (headTests b i) (none-left (headTests b i) fromEvents none);
         events = λ k h. passes (ofEvent b stations i k) (each-at (ofEvent b stations i) (byte b i) k (none-left (chartEvents b stations i) fromPairs events) h);
-        pairs = λ k h. passes (ofPair b i k) (each-at (ofPair b i) (byte b i) k (none-left (chartPairs b i) (chartConstraints b i) pairs) h);
-        constraints = λ k h. passes (ofConstraint b i k) (each-at (ofConstraint b i) (byte b (i + 1)) k constraints h);
+        pairs = λ k h. passes (ofPair b i k) (each-at (ofPair b i) (byte b i) k (none-left (chartPairs b i) fromConstraints pairs) h);
+        constraints = λ k h. passes (ofConstraint b i k) (each-at (ofConstraint b i) (byte b (i + 1)) k (none-left (chartConstraints b i) (orderTests (eventsAt b i) i) constraints) h);
+        order = passes (orderTests (eventsAt b i) i) (none-right (chartConstraints b i) (orderTests (eventsAt b i) i) constraints);
       }
 
   pub chart-passed : ChartPasses b stations i → firstFault (chartTests b stations i) ≡ None
   chart-passed p =
       none-join (headTests b i) fromEvents (passed (headTests b i) (p .head))
       (none-join (chartEvents b stations i) fromPairs (each-none (ofEvent b stations i) (byte b i) (λ k h. passed (ofEvent b stations i k) (p .events k h)))
-      (none-join (chartPairs b i) (chartConstraints b i) (each-none (ofPair b i) (byte b i) (λ k h. passed (ofPair b i k) (p .pairs k h)))
-      (each-none (ofConstraint b i) (byte b (i + 1)) (λ k h. passed (ofConstraint b i k) (p .constraints k h)))))
+      (none-join (chartPairs b i) fromConstraints (each-none (ofPair b i) (byte b i) (λ k h. passed (ofPair b i k) (p .pairs k h)))
+      (none-join (chartConstraints b i) (orderTests (eventsAt b i) i) (each-none (ofConstraint b i) (byte b (i + 1)) (λ k h. passed (ofConstraint b i k) (p .constraints k h)))
+      (passed (orderTests (eventsAt b i) i) (p .order)))))
 
 -- what the tests of a head and of an event say
 
@@ -179,6 +186,7 @@ chart-good b stations i p =
       constraints-most = omega (arith, head .constraints);
       on-station = λ e h. let l : e < n = omega arith in subst (λ x. x .station < stations) (sym (at e l)) (facts e l .station);
       paired = λ e h. let l : e < n = omega arith in decides-paired es e .0 (p .pairs e l .0);
+      acyclic = decides-acyclic es .0 (p .order .0);
       ordered = λ k h. let l : k < m = omega arith in subst (λ x. DirectlyBefore es (x .first) (x .second)) (sym (at′ k l)) (decides-before es (byte b (constraintsPlace b i + 6 * k)) (byte b (constraintsPlace b i + 6 * k + 1)) .0 (p .constraints k l .1 .0));
       proper = λ k h. let l : k < m = omega arith in subst (λ x. Proper (x .interval)) (sym (at′ k l)) (decides-proper (constraintAt b (constraintsPlace b i + 6 * k) .interval) .0 (p .constraints k l .1 .1 .0));
     }
@@ -236,6 +244,7 @@ chart-tested b stations i s good =
             kind = event-kind b (i + 3 + 3 * k) (event es k) here;
             pair = let q = subst (λ x. x .pair < length es) (at k h) (good .paired k l .exists) in omega arith;
           });
+      order = (decides-acyclic es .1 (good .acyclic), tt);
       pairs = λ k h. let l : k < length es = omega arith in (decides-paired es k .1 (good .paired k l), tt);
       constraints = λ k h.
           let l : k < length cs = omega arith in

@@ -2,6 +2,7 @@ pub mod Faults
 pub mod Silence
 pub mod Parts
 pub mod Tests
+pub mod Orders
 pub mod Records
 pub mod Charts
 pub mod Links

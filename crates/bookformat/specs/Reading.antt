@@ -11,7 +11,7 @@ use Rattle.bookformat.specs.declared.value.Kind.the-variants.{Send, Receive}
 use Rattle.bookformat.specs.declared.value.Event.{Event}
 use Rattle.bookformat.specs.declared.value.Interval.{Interval}
 use Rattle.bookformat.specs.declared.fault.Fault.{Fault}
-use Rattle.bookformat.specs.declared.fault.Fault.the-variants.{RecordCut, WrongMark, WrongVersion, FieldOutOfRange, TrailingBytes, BadEvent, NotDirectlyBefore, BadConstraintInterval, BadLinkInterval, NoSuchChart, IntervalNotDue}
+use Rattle.bookformat.specs.declared.fault.Fault.the-variants.{RecordCut, WrongMark, WrongVersion, FieldOutOfRange, TrailingBytes, BadEvent, NotDirectlyBefore, CyclicOrder, BadConstraintInterval, BadLinkInterval, NoSuchChart, IntervalNotDue}
 use Rattle.bookformat.specs.Values.{ChartValue}
 use Rattle.bookformat.specs.Rules.{event, noChart}
 use Rattle.bookformat.specs.Layout.{byte, word, intervalAt, eventsAt, constraintsPlace, chartPlace, chartsAt, linksPlace}
@@ -123,6 +123,23 @@ constraintFields es first second interval i =
 abbrev pub constraintTests : List ℕ → List Event → ℕ → List Test
 constraintTests b es i = lies b i 6 ∷ constraintFields es (byte b i) (byte b (i + 1)) (intervalAt b (i + 2)) i
 
+-- e comes before f by way of events below m
+abbrev pub isBeforeBy : List Event → ℕ → ℕ → ℕ → Bool
+isBeforeBy es zero e f = isDirectlyBefore es e f
+isBeforeBy es (suc m) e f = isBeforeBy es m e f || (isBeforeBy es m e m && isBeforeBy es m m f)
+
+-- p holds of no number below n
+abbrev pub noneBelow : (ℕ → Bool) → ℕ → Bool
+noneBelow p zero = true
+noneBelow p (suc n) = noneBelow p n && not (p n)
+
+-- no event comes before itself
+abbrev pub isAcyclic : List Event → Bool
+isAcyclic es = noneBelow (λ e. isBeforeBy es (length es) e e) (length es)
+
+abbrev pub orderTests : List Event → ℕ → List Test
+orderTests es i = test (isAcyclic es) (CyclicOrder i) ∷ []
+
 -- of a chart whose head is at i: its events, their pairing, its constraints
 abbrev pub chartEvents : List ℕ → ℕ → ℕ → List Test
 chartEvents b stations i = each (λ k. eventTests b stations (byte b i) (i + 3 + 3 * k)) (byte b i)
@@ -134,7 +151,9 @@ abbrev pub chartConstraints : List ℕ → ℕ → List Test
 chartConstraints b i = each (λ k. constraintTests b (eventsAt b i) (constraintsPlace b i + 6 * k)) (byte b (i + 1))
 
 abbrev pub chartTests : List ℕ → ℕ → ℕ → List Test
-chartTests b stations i = headTests b i ++ (chartEvents b stations i ++ (chartPairs b i ++ chartConstraints b i))
+chartTests b stations i =
+    headTests b i
+    ++ (chartEvents b stations i ++ (chartPairs b i ++ (chartConstraints b i ++ orderTests (eventsAt b i) i)))
 
 -- no event is on station p
 abbrev pub isSilent : List Event → ℕ → Bool

@@ -42,6 +42,15 @@ pub data DirectlyBefore (es : List Event) (e f : ℕ) : Type 0 where
   listed-later : e < f → f < length es → event es e .station ≡ event es f .station → DirectlyBefore es e f
   its-receive : e < length es → event es e .kind ≡ Send → event es e .pair ≡ f → DirectlyBefore es e f
 
+-- event e comes before f in the order of the chart: by one or more steps of directly before
+pub data ComesBefore (es : List Event) : ℕ → ℕ → Type 0 where
+  directly : {e f : ℕ} → DirectlyBefore es e f → ComesBefore es e f
+  onward : {e f : ℕ} (g : ℕ) → DirectlyBefore es e g → ComesBefore es g f → ComesBefore es e f
+
+-- no event comes before itself
+abbrev pub Acyclic : List Event → Type 0
+Acyclic es = (e : ℕ) → ComesBefore es e e → ⊥
+
 -- the pair of event e is an event of the other kind on another station, whose pair is e
 pub record Paired (es : List Event) (e : ℕ) : Type 0 where
   pub exists : event es e .pair < length es
@@ -65,6 +74,7 @@ pub record GoodChart (stations : ℕ) (c : ChartValue) : Type 0 where
   pub paired : (e : ℕ) → e < length (c .events) → Paired (c .events) e
   pub ordered : (k : ℕ) → k < length (c .constraints) → DirectlyBefore (c .events) (getD (c .constraints) k noConstraint .first) (getD (c .constraints) k noConstraint .second)
   pub proper : (k : ℕ) → k < length (c .constraints) → Proper (getD (c .constraints) k noConstraint .interval)
+  pub acyclic : Acyclic (c .events)
 
 -- no event is on station p
 abbrev pub Silent : List Event → ℕ → Type 0
@@ -81,7 +91,7 @@ pub record GoodLink (b : BookValue) (l : Link) : Type 0 where
   pub proper : (p : ℕ) → p < 8 → Proper (getD (l .intervals) p unbounded)
   pub not-due : (p : ℕ) → p < 8 → Apart b l p → getD (l .intervals) p unbounded ≡ unbounded
 
--- a book that keeps every rule but one: that no event comes before itself is not asked here
+-- a book that keeps every rule
 pub record GoodBook (b : BookValue) : Type 0 where
   pub stations-least : 2 ≤ b .stations
   pub stations-most : b .stations ≤ 8

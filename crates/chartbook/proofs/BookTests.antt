@@ -17,9 +17,9 @@ use Rattle.bookformat.specs.Values.{ChartValue, BookValue, held, chartValue}
 use Rattle.bookformat.specs.Layout.{byte, word, chartAt, chartPlace, chartsAt, linkAt, linksPlace, records, bookAt}
 use Rattle.bookformat.specs.Reading.{Test, firstFault, each, chartTests, linkTests, markTests, headerTests, bookCharts, bookLinks, endTests, reading}
 use Rattle.bookformat.proofs.Faults.{fault-left, fault-right, none-cons, some-head}
-use Rattle.chartbook.specs.declared.fields.Header.{Header}
+use Rattle.bookrecords.specs.declared.fields.Header.{Header}
 use Rattle.chartbook.specs.Answers.{ChartsRead}
-use Rattle.chartbook.specs.Headers.{headerAt}
+use Rattle.bookrecords.specs.Headers.{headerAt}
 
 module _ (b : List ℕ) (header : Header) (is : header ≡ headerAt b) (header-passed : firstFault (markTests b ++ headerTests b) ≡ None) where
   abbrev end : List Test

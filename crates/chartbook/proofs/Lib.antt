@@ -1,9 +1,5 @@
-pub mod Parts
-pub mod Exits
-pub mod Intervals
-pub mod ChartTests
-pub mod HeaderTests
+pub mod BookTests
 pub mod ChartLists
+pub mod ChartTests
 pub mod LinkTests
 pub mod ReadLaws
-pub mod BookTests

@@ -26,7 +26,7 @@ use Rattle.bookformat.specs.Layout.{byte, intervalAt, records, linkAt}
 use Rattle.bookformat.specs.Rules.{unbounded, noChart}
 use Rattle.bookformat.specs.Reading.{Test, firstFault, each, stationTests, isApart, eventsOf, endsFields, linkEnds, linkStations, linkTests}
 use Rattle.bookformat.proofs.Faults.{each-fails, each-passes, fault-left, fault-right}
-use Rattle.chartbook.proofs.Intervals.{interval4, interval-here, interval-read}
+use Rattle.bookrecords.proofs.Intervals.{interval4, interval-here, interval-read}
 
 -- of the record `part` of a link at a place, between charts with the events `before` and `after`
 module _ (part : List ℕ) (place stations : ℕ) (before after : List Event) where

@@ -16,7 +16,7 @@ use Rattle.bookformat.specs.Laws.{Octets}
 use Rattle.bookformat.specs.Reading.{reading, fault}
 use Rattle.bookformat.proofs.Taken.{taken-good}
 use Rattle.bookformat.proofs.GoodTaken.{good-taken, good-read}
-use Rattle.chartbook.specs.Answers.{Tested}
+use Rattle.bookrecords.specs.Answers.{Tested}
 use Rattle.chartbook.specs.Reads.{Taken, Refused, Reads}
 
 taken : (b : List ℕ) (v : BookValue) → fault b ≡ None → v ≡ bookAt b → Octets b → Taken b v

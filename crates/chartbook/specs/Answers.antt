@@ -1,22 +1,12 @@
--- What a reader answers.
+-- What the reader of charts answers.
 use Prim.Native.Nat.{ℕ, _+_, _*_, _≤_}
 use mathlib.Core.Path.{_≡_}
 use mathlib.Core.List.{List, map}
-use Rattle.std.specs.declared.option.Option.the-variants.{Some, None}
-use Rattle.std.specs.declared.result.Result.{Result}
-use Rattle.std.specs.declared.result.Result.the-variants.{Ok, Err}
-use Rattle.bookformat.specs.declared.fault.Fault.{Fault}
 use Rattle.std.specs.Iters.{counting}
 use Rattle.bookformat.specs.declared.bounded.Bounded.{Bounded}
 use Rattle.bookformat.specs.declared.value.Chart.{Chart}
 use Rattle.bookformat.specs.Values.{held, chartValue}
 use Rattle.bookformat.specs.Layout.{byte, chartAt, constraintsPlace, chartPlace}
-use Rattle.bookformat.specs.Reading.{Test, firstFault}
-
--- a value where every test holds, else the fault of the first that fails
-abbrev pub Tested : {T : Type 0} → Result T Fault → List Test → (T → Type 0) → Type 0
-Tested (Ok x) tests Q = (firstFault tests ≡ None) × Q x
-Tested (Err f) tests Q = firstFault tests ≡ Some f
 
 -- the chart whose head is at a place, and the place behind it
 pub record ChartRead (b : List ℕ) (place : ℕ) (c : Chart) (next : ℕ) : Type 0 where

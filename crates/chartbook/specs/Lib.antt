@@ -1,4 +1,2 @@
-pub mod Records
 pub mod Answers
-pub mod Headers
 pub mod Reads

@@ -1,20 +1,11 @@
 ghost use mathlib.Core.Path.{_≡_};
 ghost use Prim.Native.Nat.{ℕ, _+_, _*_, _<_, _≤_};
-ghost use lib.Dec.{eqb};
 ghost use lib.ListN.{length};
 ghost use Rattle.bookformat.specs.Values.{held};
-ghost use Rattle.bookformat.specs.Layout.{byte, eventAt, constraintAt, records, chartPlace};
-ghost use Rattle.bookformat.specs.Reading.{each, headTests, eventTests, pairTests, constraintTests, chartTests};
-ghost use Rattle.chartbook.specs.Answers.{Tested, ChartRead, ChartsRead};
-use crate::fields::ChartHead;
-use crate::fields::chart_head;
-use crate::fields::constraint;
-use crate::fields::event;
-use crate::fields::interval;
-use crate::fields::is_paired;
-use crate::records::RecordKind;
-use crate::records::Watch;
-use crate::records::watched_record;
+ghost use Rattle.bookformat.specs.Layout.{eventAt, constraintAt, records, chartPlace};
+ghost use Rattle.bookformat.specs.Reading.{each, eventTests, pairTests, constraintTests, chartTests};
+ghost use Rattle.bookrecords.specs.Answers.{Tested};
+ghost use Rattle.chartbook.specs.Answers.{ChartRead, ChartsRead};
 use bookformat::Bounded;
 use bookformat::Chart;
 use bookformat::Constraint;
@@ -22,6 +13,12 @@ use bookformat::Event;
 use bookformat::Fault;
 use bookformat::Interval;
 use bookformat::Kind;
+use bookrecords::Watch;
+use bookrecords::is_paired;
+use bookrecords::read_constraint;
+use bookrecords::read_event;
+use bookrecords::read_head;
+use chartorder::is_acyclic;
 
 const BLANK_EVENT: Event = Event {
     station: 0,
@@ -37,44 +34,6 @@ const BLANK_CONSTRAINT: Constraint = Constraint {
         upper: None,
     },
 };
-
-fn read_head<W: Watch>(
-    book: &[u8],
-    place: usize,
-    number: usize,
-    watch: &mut W,
-) -> Result<ChartHead, Fault>
-    requires { ⌜ place ≤ 20000 ⌝ }
-    ensures { λ r. ⌜ Tested r (headTests (now (book .entry)) place) (λ h. h ≡ record { events = byte (now (book .entry)) place; constraints = byte (now (book .entry)) (place + 1); «is_final» = eqb (byte (now (book .entry)) (place + 2)) 1 }) ⌝ }
-{
-    let part = watched_record(book, RecordKind::ChartHead, number, place, watch)?;
-    let [events, constraints, final_mark] = part else {
-        return Err(Fault::RecordCut { place });
-    };
-    chart_head(
-        usize::from(*events),
-        usize::from(*constraints),
-        *final_mark,
-        place,
-    )
-}
-
-fn read_event<W: Watch>(
-    book: &[u8],
-    place: usize,
-    number: usize,
-    stations: u8,
-    events: usize,
-    watch: &mut W,
-) -> Result<Event, Fault>
-    ensures { λ r. ⌜ Tested r (eventTests (now (book .entry)) stations events place) (λ e. e ≡ eventAt (now (book .entry)) place) ⌝ }
-{
-    let part = watched_record(book, RecordKind::Event, number, place, watch)?;
-    let [station, kind, pair] = part else {
-        return Err(Fault::RecordCut { place });
-    };
-    event(*station, *kind, *pair, stations, events, place)
-}
 
 fn read_events<W: Watch>(
     book: &[u8],
@@ -107,23 +66,6 @@ fn check_pairs(events: &[Event], place: usize) -> Result<(), Fault>
         }
     }
     Ok(())
-}
-
-fn read_constraint<W: Watch>(
-    book: &[u8],
-    place: usize,
-    number: usize,
-    events: &[Event],
-    watch: &mut W,
-) -> Result<Constraint, Fault>
-    ensures { λ r. ⌜ Tested r (constraintTests (now (book .entry)) (now (events .entry)) place) (λ c. c ≡ constraintAt (now (book .entry)) place) ⌝ }
-{
-    let part = watched_record(book, RecordKind::Constraint, number, place, watch)?;
-    let [first, second, lower_high, lower_low, upper_high, upper_low] = part else {
-        return Err(Fault::RecordCut { place });
-    };
-    let interval = interval([*lower_high, *lower_low], [*upper_high, *upper_low]);
-    constraint(*first, *second, interval, events, place)
 }
 
 fn read_constraints<W: Watch>(
@@ -169,6 +111,11 @@ fn read_chart<W: Watch>(
     check_pairs(listed, place + 3)?;
     let at = place + 3 + 3 * head.events;
     let constraints = read_constraints(book, at, listed, head.constraints, watch)?;
+    let is_sound = is_acyclic(&events);
+    watch.order(number, is_sound);
+    if !is_sound {
+        return Err(Fault::CyclicOrder { place });
+    }
     let next = at + 6 * head.constraints;
     Ok((
         Chart {

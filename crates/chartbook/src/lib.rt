@@ -1,11 +1,8 @@
 //! Reads a chart book from its bytes.
 
 mod charts;
-mod fields;
-mod headers;
 mod links;
 mod reader;
-mod records;
 
 pub use bookformat::Book;
 pub use bookformat::Bounded;
@@ -20,10 +17,10 @@ pub use bookformat::Link;
 pub use bookformat::Refusal;
 pub use bookformat::RefusalDebug;
 pub use bookformat::RefusalPartialEq;
+pub use bookrecords::RecordKind;
+pub use bookrecords::Unwatched;
+pub use bookrecords::UnwatchedWatch;
+pub use bookrecords::Watch;
+pub use bookrecords::record;
 pub use reader::read_book;
 pub use reader::read_watched;
-pub use records::RecordKind;
-pub use records::Unwatched;
-pub use records::UnwatchedWatch;
-pub use records::Watch;
-pub use records::record;

@@ -5,20 +5,20 @@ ghost use lib.ListN.{length};
 ghost use Rattle.bookformat.specs.Values.{held, chartValue};
 ghost use Rattle.bookformat.specs.Layout.{intervalAt, linkAt, records};
 ghost use Rattle.bookformat.specs.Reading.{each, isApart, stationTests, linkTests};
-ghost use Rattle.chartbook.specs.Answers.{Tested};
-use crate::fields::check_ends;
-use crate::fields::check_interval;
-use crate::fields::interval;
-use crate::fields::is_apart;
-use crate::records::RecordKind;
-use crate::records::Watch;
-use crate::records::watched_record;
+ghost use Rattle.bookrecords.specs.Answers.{Tested};
 use bookformat::Bounded;
 use bookformat::Chart;
 use bookformat::Event;
 use bookformat::Fault;
 use bookformat::Interval;
 use bookformat::Link;
+use bookrecords::RecordKind;
+use bookrecords::Watch;
+use bookrecords::check_ends;
+use bookrecords::check_interval;
+use bookrecords::interval;
+use bookrecords::is_apart;
+use bookrecords::watched_record;
 
 const UNBOUNDED: Interval = Interval {
     lower: 0,

@@ -3,16 +3,16 @@ ghost use Rattle.bookformat.specs.Values.{bookValue};
 ghost use Rattle.bookformat.specs.Layout.{bookAt};
 ghost use Rattle.bookformat.specs.Laws.{Octets};
 ghost use Rattle.bookformat.specs.Reading.{reading};
-ghost use Rattle.chartbook.specs.Answers.{Tested};
+ghost use Rattle.bookrecords.specs.Answers.{Tested};
 ghost use Rattle.chartbook.specs.Reads.{Reads};
 use crate::charts::read_charts;
-use crate::headers::read_header;
 use crate::links::read_links;
-use crate::records::Unwatched;
-use crate::records::UnwatchedWatch;
-use crate::records::Watch;
 use bookformat::Book;
 use bookformat::Fault;
+use bookrecords::Unwatched;
+use bookrecords::UnwatchedWatch;
+use bookrecords::Watch;
+use bookrecords::read_header;
 
 /// Every record in reading order, each tested as it is read.
 fn read_records<W: Watch>(book: &[u8], watch: &mut W) -> Result<Book, Fault>

@@ -272,6 +272,50 @@ mod tests {
         )
     }
 
+    // Two messages that cross, where each station receives before it sends.
+    const CROSSED: [u8; 28] = [
+        0x54,
+        0x43,
+        0x4d,
+        0,
+        1,
+        2,
+        1,
+        0,
+        0,
+        0,
+        3,
+        0,
+        3, // mark and header
+        4,
+        0,
+        1,
+        0,
+        0x3f,
+        3,
+        0,
+        0x21,
+        2,
+        1,
+        0x3f,
+        1,
+        1,
+        0x21,
+        0, // chart 0 at 13
+    ];
+
+    #[test]
+    fn an_event_before_itself() -> Result<(), Fail> {
+        check_eq(
+            refused(&CROSSED),
+            Some(Refusal {
+                number: 8,
+                layer: 2,
+                place: 13,
+            }),
+        )
+    }
+
     #[test]
     fn what_is_read() -> Result<(), Fail> {
         let book = read_book(&COUNTDOWN)?;

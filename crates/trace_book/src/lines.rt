@@ -29,6 +29,12 @@ pub impl Watch for Trace<'_> as TraceWatch {
             self.printed = print_record(self.rt, kind, number, place, bytes);
         }
     }
+
+    fn order(&mut self, chart: usize, is_sound: bool) {
+        if self.printed.is_ok() {
+            self.printed = print_order(self.rt, chart, is_sound);
+        }
+    }
 }
 
 fn print_record(
@@ -115,6 +121,14 @@ fn print_event(rt: &LibcRuntime, number: usize, place: usize, bytes: &[u8]) -> i
             rt,
             "{place} event {number} station {station} kind {kind:02X}h with event {pair}"
         ),
+    }
+}
+
+fn print_order(rt: &LibcRuntime, chart: usize, is_sound: bool) -> io::Result<()> {
+    if is_sound {
+        println!(rt, "chart {chart} order sound")
+    } else {
+        println!(rt, "chart {chart} order cyclic")
     }
 }
 

@@ -5,7 +5,7 @@ use Rattle.std.specs.declared.option.Option.the-variants.{Some, None}
 use Rattle.bookformat.specs.Layout.{chartPlace}
 use Rattle.bookformat.specs.Reading.{Test, firstFault, chartTests}
 use Rattle.bookformat.proofs.Faults.{each-fails, each-passes}
-use Rattle.chartbook.proofs.Exits.{hands-on}
+use Rattle.bookrecords.proofs.Exits.{hands-on}
 use Rattle.chartbook.proofs.ChartLists.{charts-none, charts-more}
 use Rattle.chartbook.proofs.charts.read_charts.Needs as need
 

@@ -5,7 +5,7 @@ use Rattle.bookformat.specs.Values.{held}
 use Rattle.bookformat.specs.Layout.{constraintAt}
 use Rattle.bookformat.specs.Reading.{Test, constraintTests}
 use Rattle.bookformat.proofs.Faults.{each-fails, each-passes}
-use Rattle.chartbook.proofs.Exits.{hands-on, records-more}
+use Rattle.bookrecords.proofs.Exits.{hands-on, records-more}
 use Rattle.chartbook.proofs.charts.read_constraints.Needs as need
 
 pub returns-in-Break-constraint : need.returns-in-Break-constraint

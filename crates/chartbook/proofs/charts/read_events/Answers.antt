@@ -6,7 +6,7 @@ use Rattle.bookformat.specs.Values.{held}
 use Rattle.bookformat.specs.Layout.{eventAt}
 use Rattle.bookformat.specs.Reading.{Test, eventTests}
 use Rattle.bookformat.proofs.Faults.{each-fails, each-passes}
-use Rattle.chartbook.proofs.Exits.{hands-on, records-more}
+use Rattle.bookrecords.proofs.Exits.{hands-on, records-more}
 use Rattle.chartbook.proofs.charts.read_events.Needs as need
 
 pub returns-in-Break-event : need.returns-in-Break-event

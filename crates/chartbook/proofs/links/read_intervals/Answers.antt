@@ -4,7 +4,7 @@ use native.Mathlib.Omega.{arith}
 use lib.ListN.{length-set}
 use Rattle.std.specs.declared.option.Option.the-variants.{None}
 use Rattle.bookformat.specs.Reading.{firstFault, each}
-use Rattle.chartbook.proofs.Exits.{hands-on}
+use Rattle.bookrecords.proofs.Exits.{hands-on}
 use Rattle.chartbook.proofs.LinkTests.{tests, station-fails, station-passes, station-set, stations-all}
 use Rattle.chartbook.proofs.links.read_intervals.Needs as need
 

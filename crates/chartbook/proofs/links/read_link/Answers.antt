@@ -1,5 +1,5 @@
 use mathlib.Core.Path.{_∙_}
-use Rattle.chartbook.proofs.Exits.{hands-on}
+use Rattle.bookrecords.proofs.Exits.{hands-on}
 use Rattle.chartbook.proofs.LinkTests.{ends-fail, stations-fault, link-is}
 use Rattle.chartbook.proofs.links.read_link.Needs as need
 

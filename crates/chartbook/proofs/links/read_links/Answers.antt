@@ -5,7 +5,7 @@ use Rattle.bookformat.specs.Values.{held, chartValue}
 use Rattle.bookformat.specs.Layout.{linkAt}
 use Rattle.bookformat.specs.Reading.{Test, linkTests}
 use Rattle.bookformat.proofs.Faults.{each-fails, each-passes}
-use Rattle.chartbook.proofs.Exits.{hands-on, records-more}
+use Rattle.bookrecords.proofs.Exits.{hands-on, records-more}
 use Rattle.chartbook.proofs.links.read_links.Needs as need
 
 pub returns-in-Break-link : need.returns-in-Break-link

@@ -1,6 +1,6 @@
 use native.Mathlib.Omega.{arith}
 use Rattle.bookformat.specs.Values.{held}
-use Rattle.chartbook.proofs.Exits.{hands-on}
+use Rattle.bookrecords.proofs.Exits.{hands-on}
 use Rattle.chartbook.proofs.BookTests.{charts-fail, links-fail, end-fails, all-pass, book-is}
 use Rattle.chartbook.proofs.reader.read_records.Needs as need
 

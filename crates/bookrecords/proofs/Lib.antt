@@ -1,0 +1,4 @@
+pub mod Exits
+pub mod HeaderTests
+pub mod Intervals
+pub mod Parts
