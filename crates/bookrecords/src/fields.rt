@@ -194,7 +194,7 @@ pub fn constraint(
 }
 
 /// Is no event on the station?
-fn is_silent(events: &[Event], station: usize) -> bool
+pub fn is_silent(events: &[Event], station: usize) -> bool
     ensures { λ r. ⌜ r ≡ isSilent (now (events .entry)) station ⌝ }
 {
     for e in events {

@@ -12,6 +12,7 @@ pub use fields::check_interval;
 pub use fields::interval;
 pub use fields::is_apart;
 pub use fields::is_paired;
+pub use fields::is_silent;
 pub use headers::read_header;
 pub use records::RecordKind;
 pub use records::Unwatched;

@@ -1,0 +1,15 @@
+pub mod Finite
+pub mod Full
+pub mod Facts
+pub mod Levels
+pub mod Exact
+pub mod Asked
+pub mod Compose
+pub mod Closed
+pub mod Tabled
+pub mod Early
+pub mod Profiled
+pub mod Deciding
+pub mod Existing
+pub mod Classes
+pub mod Filled
