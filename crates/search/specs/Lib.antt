@@ -1,0 +1,5 @@
+pub mod Systems
+pub mod Rows
+pub mod Walks
+pub mod Places
+pub mod Laws
