@@ -26,14 +26,14 @@ pub record Tidy (b : BookValue) (s : Class) : Type 0 where
 
 abbrev pub classes : BookValue → System
 classes b = record {
-    Class = Class;
-    In = λ path s. Tidy b s × InClass b path (s .chart) (entry s);
-    links = length (b .links);
-    begins = λ s l. eqb (link b l .from) (s .chart);
-    leads = λ s l t. Tidy b t × Leads b (s .chart) (entry s) l (t .chart) (entry t);
-    final = λ s. chart b (s .chart) .final;
-    blank = no-row .class;
-  }
+  Class = Class;
+  In = λ path s. Tidy b s × InClass b path (s .chart) (entry s);
+  links = length (b .links);
+  begins = λ s l. eqb (link b l .from) (s .chart);
+  leads = λ s l t. Tidy b t × Leads b (s .chart) (entry s) l (t .chart) (entry t);
+  final = λ s. chart b (s .chart) .final;
+  blank = no-row .class;
+}
 
 abbrev pub ClassesLaw : Type 0
 ClassesLaw = (b : BookValue) → GoodBook b → Lawful (classes b)

@@ -1,0 +1,4 @@
+pub mod Fillings
+pub mod Parts
+pub mod Readings
+pub mod Answers
