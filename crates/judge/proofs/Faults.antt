@@ -8,11 +8,12 @@ use Rattle.std.specs.Results.{ErrBy}
 use Rattle.std.specs.declared.result.Result.{Result}
 use Rattle.std.specs.declared.result.Result.the-variants.{Ok, Err}
 use Rattle.bookformat.specs.declared.fault.Fault.{Fault}
+use Rattle.bookformat.specs.declared.fault.Fault.the-variants.{WrongDateCount}
 use Rattle.bookformat.specs.Values.{BookValue}
 use Rattle.chartbook.specs.Reads.{Refused}
 use Rattle.paths.specs.Paths.{Path}
 use Rattle.judge.specs.declared.judgement.Judgement.{Judgement}
-use Rattle.judge.specs.Judging.{GoesOn, AtFault, bad-link, too-many, FirstAtFault, GoodPath, Judged, bad-path, Judges, bad-book}
+use Rattle.judge.specs.Judging.{GoesOn, AtFault, bad-link, too-many, FirstAtFault, GoodPath, eventsOf, Judged, bad-path, wrong-count, Judges, bad-book}
 use Rattle.judge.specs.Walking.{Leaves, StandsAt, PathChecked, fault, fine}
 
 module _ (b : BookValue) (path : List ℕ) (k at : ℕ) (stands : StandsAt b path k at) where
@@ -43,6 +44,9 @@ book-refused bytes path dates f r by refused = bad-book f refused (handed r f by
 pub path-refused : {X : Type 0} (b : BookValue) (path dates : List ℕ) (f : Fault) (r : Result Judgement Fault) → ErrBy r (λ e. e ≡ f) → PathChecked b path {X = X} (Err f) → Judged b path dates r
 path-refused b path dates f r by (fault k first e) = let is = handed r f by in bad-path k first (cc)
 path-refused b path dates f r by (fine x good e) = let z : _≡_ {A = ℕ} 0 1 = cc in absurd (omega arith)
+
+pub count-refused : (b : BookValue) (path dates : List ℕ) (f : Fault) (r : Result Judgement Fault) → GoodPath b path → ErrBy r (λ e. e ≡ f) → (length dates ≡ eventsOf b path → ⊥) × (f ≡ WrongDateCount (eventsOf b path)) → Judged b path dates r
+count-refused b path dates f r good by (wrong, is) = wrong-count good wrong (handed r f by ∙ ap Err is)
 
 -- no refusal: there is a path
 pub path-fine : {X : Type 0} (b : BookValue) (path : List ℕ) (x : X) → PathChecked b path {X = X} (Ok x) → GoodPath b path

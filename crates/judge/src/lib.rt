@@ -7,8 +7,8 @@ use bookformat::Book;
 use bookformat::Fault;
 use chartbook::read_book;
 use dates::judge_dates;
+use path::check_count;
 use path::check_path;
-use path::count_events;
 
 mod dates;
 mod judgement;
@@ -24,10 +24,7 @@ fn judge_in(book: &Book, links: &[u16], dates: &[u32]) -> Result<Judgement, Faul
     ensures { λ r. ⌜ Judged (bookValue (now (book .entry))) (now (links .entry)) (now (dates .entry)) r ⌝ }
 {
     check_path(book, links)?;
-    let needed = count_events(book, links);
-    if dates.len() != needed {
-        return Err(Fault::WrongDateCount { needed });
-    }
+    check_count(book, links, dates)?;
     Ok(judge_dates(book, links, dates))
 }
 

@@ -1,12 +1,13 @@
 ghost use mathlib.Core.Path.{_≡_};
 ghost use Prim.Native.Nat.{_-_, _<_, _≤_};
 ghost use lib.ListN.{length};
+ghost use Rattle.std.specs.Orderings.{Decides};
 ghost use Rattle.bookformat.specs.Values.{bookValue};
 ghost use Rattle.bookformat.specs.Rules.{GoodBook};
 ghost use Rattle.paths.specs.Paths.{linkAt, chartNumber, chartAt};
 ghost use Rattle.fullchart.specs.Finds.{IsFull};
 ghost use Rattle.judge.specs.Judging.{GoodPath, eventsOf};
-ghost use Rattle.judge.specs.Walking.{GoesTo, PathChecked};
+ghost use Rattle.judge.specs.Walking.{GoesTo, PathChecked, CountChecked};
 use bookformat::Book;
 use bookformat::Fault;
 use bookformat::Link;
@@ -15,6 +16,13 @@ use rules::full_chart;
 
 /// How many links a path may have.
 const MOST_LINKS: usize = 4095;
+
+/// Is this the position of the first link too many?
+fn is_too_many(position: usize) -> bool
+    ensures { λ r. ⌜ Decides r (position ≡ 4095) ⌝ }
+{
+    position == MOST_LINKS
+}
 
 /// The chart to which the link with a number leads from chart `at`, if there is such a link.
 fn next_chart(book: &Book, at: u8, link: u16) -> Option<u8>
@@ -35,7 +43,7 @@ pub fn check_path(book: &Book, links: &[u16]) -> Result<(), Fault>
 {
     let mut at = book.first;
     for (position, link) in links.iter().enumerate() {
-        if position == MOST_LINKS {
+        if is_too_many(position) {
             return Err(Fault::BadLinkNumber { position });
         }
         match next_chart(book, at, *link) {
@@ -81,7 +89,7 @@ pub fn full_at(book: &Book, links: &[u16], position: usize) -> FullChart
 }
 
 /// How many events the path has.
-pub fn count_events(book: &Book, links: &[u16]) -> usize
+fn count_events(book: &Book, links: &[u16]) -> usize
     requires good { ⌜ GoodBook (bookValue (now book)) ⌝ }
     requires path { ⌜ GoodPath (bookValue (now book)) (now links) ⌝ }
     ensures { λ r. ⌜ r ≡ eventsOf (bookValue (now (book .entry))) (now (links .entry)) ⌝ }
@@ -91,4 +99,17 @@ pub fn count_events(book: &Book, links: &[u16]) -> usize
         count += full_at(book, links, position).count();
     }
     count
+}
+
+/// Refuses another number of dates than the path has events.
+pub fn check_count(book: &Book, links: &[u16], dates: &[u32]) -> Result<(), Fault>
+    requires good { ⌜ GoodBook (bookValue (now book)) ⌝ }
+    requires path { ⌜ GoodPath (bookValue (now book)) (now links) ⌝ }
+    ensures { λ r. ⌜ CountChecked (bookValue (now (book .entry))) (now (links .entry)) (now (dates .entry)) r ⌝ }
+{
+    let needed = count_events(book, links);
+    if dates.len() != needed {
+        return Err(Fault::WrongDateCount { needed });
+    }
+    Ok(())
 }

@@ -4,10 +4,10 @@ use Rattle.judge.specs.Walking.{fault, fine}
 use Rattle.judge.proofs.Faults.{link-fails, count-fails, all-go-on}
 use Rattle.judge.proofs.path.check_path.Needs as need
 
-pub returns-then-position-eq-MOST-LINKS : need.returns-then-position-eq-MOST-LINKS
-returns-then-position-eq-MOST-LINKS c =
+pub returns-then-is-too-many : need.returns-then-is-too-many
+returns-then-is-too-many c =
     let k = c .loop-position .position in
-    fault k (count-fails (bookValue (c .args .book .now)) (c .args .links .now) k (c .loop-position .at) (c .loop-position .inv) (c .loop-position-test .taken) (c .if-position-eq-MOST-LINKS .taken)) refl
+    fault k (count-fails (bookValue (c .args .book .now)) (c .args .links .now) k (c .loop-position .at) (c .loop-position .inv) (c .loop-position-test .taken) (c .is-too-many .ensures .0 (c .if-is-too-many .taken))) refl
 
 pub returns-in-None : need.returns-in-None
 returns-in-None c =
