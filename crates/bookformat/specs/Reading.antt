@@ -193,8 +193,12 @@ linkEnds b charts i = lies b i 34 ∷ endsFields (length charts) (byte b i) (byt
 abbrev pub linkTests : List ℕ → ℕ → List ChartValue → ℕ → List Test
 linkTests b stations charts i = linkEnds b charts i ++ linkStations b stations charts i
 
+-- a book of so many bytes ends at i
+abbrev pub endTest : ℕ → ℕ → List Test
+endTest size i = test (leb size i) (TrailingBytes i) ∷ []
+
 abbrev pub endTests : List ℕ → ℕ → List Test
-endTests b i = test (leb (length b) i) (TrailingBytes i) ∷ []
+endTests b i = endTest (length b) i
 
 abbrev pub bookCharts : List ℕ → List Test
 bookCharts b = each (λ k. chartTests b (byte b 5) (chartPlace b k)) (byte b 6)

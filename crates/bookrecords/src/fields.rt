@@ -3,7 +3,7 @@ ghost use Prim.Native.Nat.{_+_, _*_, _<_, _≤_};
 ghost use lib.ListN.{length, getD};
 ghost use lib.Dec.{eqb};
 ghost use Rattle.bookformat.specs.Layout.{kindOf, endOf};
-ghost use Rattle.bookformat.specs.Reading.{between, isProper, isUnbounded, isPaired, isSilent, isApart, stationTests, endsFields, headerFields, headFields, eventFields, constraintFields};
+ghost use Rattle.bookformat.specs.Reading.{between, isProper, isUnbounded, isPaired, isSilent, isApart, stationTests, endsFields, endTest, headerFields, headFields, eventFields, constraintFields};
 ghost use Rattle.bookrecords.specs.Answers.{Tested};
 use bookformat::Constraint;
 use bookformat::Event;
@@ -231,6 +231,16 @@ pub fn check_ends(from: usize, to: usize, charts: usize, place: usize) -> Result
 {
     if from >= charts || to >= charts {
         return Err(Fault::NoSuchChart { place });
+    }
+    Ok(())
+}
+
+/// Tests that the book, which has so many bytes, ends at a place.
+pub fn check_end(size: usize, place: usize) -> Result<(), Fault>
+    ensures { λ r. ⌜ Tested r (endTest size place) (λ _. Unit {0}) ⌝ }
+{
+    if size > place {
+        return Err(Fault::TrailingBytes { place });
     }
     Ok(())
 }

@@ -7,6 +7,7 @@ mod singles;
 
 pub use fields::ChartHead;
 pub use fields::Header;
+pub use fields::check_end;
 pub use fields::check_ends;
 pub use fields::check_interval;
 pub use fields::interval;

@@ -3,20 +3,16 @@ use Prim.Native.Nat.{ℕ, _+_, _*_, _<_, _≤_}
 use mathlib.Core.Path.{_≡_, refl, sym, ap, subst, _∙_}
 use mathlib.Core.List.{List, [], _∷_, _++_, map}
 use native.Mathlib.Omega.{arith}
-use lib.Dec.{leb}
-use lib.ListN.{length}
 use Rattle.std.specs.Iters.{counting}
 use Rattle.std.specs.declared.option.Option.the-variants.{Some, None}
-use Rattle.std.proofs.shelf.Tests.{le-leb, lt-leb}
 use Rattle.bookformat.specs.declared.bounded.Bounded.{Bounded}
 use Rattle.bookformat.specs.declared.fault.Fault.{Fault}
-use Rattle.bookformat.specs.declared.fault.Fault.the-variants.{TrailingBytes}
 use Rattle.bookformat.specs.declared.value.Chart.{Chart}
 use Rattle.bookformat.specs.declared.value.Link.{Link}
 use Rattle.bookformat.specs.Values.{ChartValue, BookValue, held, chartValue}
 use Rattle.bookformat.specs.Layout.{byte, word, chartAt, chartPlace, chartsAt, linkAt, linksPlace, records, bookAt}
 use Rattle.bookformat.specs.Reading.{Test, firstFault, each, chartTests, linkTests, markTests, headerTests, bookCharts, bookLinks, endTests, reading}
-use Rattle.bookformat.proofs.Faults.{fault-left, fault-right, none-cons, some-head}
+use Rattle.bookformat.proofs.Faults.{fault-left, fault-right}
 use Rattle.bookrecords.specs.declared.fields.Header.{Header}
 use Rattle.chartbook.specs.Answers.{ChartsRead}
 use Rattle.bookrecords.specs.Headers.{headerAt}
@@ -55,16 +51,10 @@ module _ (b : List ℕ) (header : Header) (is : header ≡ headerAt b) (header-p
     links-fail f here = to-links ∙ fault-left (bookLinks b) end f (sym (ap firstFault links-are) ∙ here)
 
     module _ (links-passed : firstFault (each (λ k. linkTests b (header .stations) (map chartValue slice) (place + 34 * k)) (header .links)) ≡ None) where
-      to-end : firstFault (reading b) ≡ firstFault (endTests b (place + 34 * header .links))
+      pub to-end : firstFault (reading b) ≡ firstFault (endTests b (place + 34 * header .links))
       to-end =
           to-links ∙ fault-right (bookLinks b) end (sym (ap firstFault links-are) ∙ links-passed)
           ∙ sym (ap (λ n. firstFault (endTests b n)) (ap (λ p. p + 34 * header .links) place-is ∙ ap (λ (h : Header). linksPlace b + 34 * h .links) is))
-
-      pub end-fails : place + 34 * header .links < length b → firstFault (reading b) ≡ Some (TrailingBytes (place + 34 * header .links))
-      end-fails more = to-end ∙ some-head (leb (length b) (place + 34 * header .links)) (TrailingBytes (place + 34 * header .links)) [] (lt-leb (length b) (place + 34 * header .links) more)
-
-      pub all-pass : length b ≤ place + 34 * header .links → firstFault (reading b) ≡ None
-      all-pass done = to-end ∙ none-cons (leb (length b) (place + 34 * header .links)) (TrailingBytes (place + 34 * header .links)) [] (le-leb (length b) (place + 34 * header .links) done) refl
 
     same-book : (s f n r : ℕ) (vs ws : List ChartValue) (ls ms : List Link) → s ≡ byte b 5 → f ≡ byte b 7 → n ≡ word b 9 → r ≡ word b 11 → vs ≡ ws → ls ≡ ms → _≡_ {A = BookValue} (record { stations = s; first = f; near = n; far = r; charts = vs; links = ls }) (record { stations = byte b 5; first = byte b 7; near = word b 9; far = word b 11; charts = ws; links = ms })
     same-book s f n r vs ws ls ms e1 e2 e3 e4 e5 e6 = cc

@@ -12,6 +12,7 @@ use bookformat::Fault;
 use bookrecords::Unwatched;
 use bookrecords::UnwatchedWatch;
 use bookrecords::Watch;
+use bookrecords::check_end;
 use bookrecords::read_header;
 
 /// Every record in reading order, each tested as it is read.
@@ -28,10 +29,7 @@ fn read_records<W: Watch>(book: &[u8], watch: &mut W) -> Result<Book, Fault>
         charts.as_slice(),
         watch,
     )?;
-    let end = place + 34 * header.links;
-    if book.len() > end {
-        return Err(Fault::TrailingBytes { place: end });
-    }
+    check_end(book.len(), place + 34 * header.links)?;
     Ok(Book {
         stations: header.stations,
         first: header.first,

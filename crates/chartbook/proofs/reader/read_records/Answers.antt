@@ -1,7 +1,7 @@
-use native.Mathlib.Omega.{arith}
+use mathlib.Core.Path.{_∙_}
 use Rattle.bookformat.specs.Values.{held}
 use Rattle.bookrecords.proofs.Exits.{hands-on}
-use Rattle.chartbook.proofs.BookTests.{charts-fail, links-fail, end-fails, all-pass, book-is}
+use Rattle.chartbook.proofs.BookTests.{charts-fail, links-fail, to-end, book-is}
 use Rattle.chartbook.proofs.reader.read_records.Needs as need
 
 pub returns-in-Break-charts : need.returns-in-Break-charts
@@ -19,21 +19,24 @@ returns-in-Break-links g c =
     (cs .0) (c .in-Continue-charts .charts) (c .in-Continue-charts .place) (cs .1) (c .as-slice .result .now) (c .as-slice .ensures)
     (c .in-Break-links .field-0 .0) (c .in-Break-links .ensures tt))
 
-pub returns-then-book-end : need.returns-then-book-end
-returns-then-book-end g c =
+pub returns-in-Break-check-end : need.returns-in-Break-check-end
+returns-in-Break-check-end g c =
     let h = c .in-Continue-header .ensures tt in
     let cs = c .in-Continue-charts .ensures tt in
     let ls = c .in-Continue-links .ensures tt in
-    end-fails (c .args .book .now) (c .in-Continue-header .header) (h .1 .0) (h .0)
-    (cs .0) (c .in-Continue-charts .charts) (c .in-Continue-charts .place) (cs .1) (c .as-slice .result .now) (c .as-slice .ensures) (ls .0) (c .if-book-end .taken)
+    hands-on (c .from-residual-in-Break-check-end .result) _ _ (c .in-Break-check-end .field-0 .0) (c .from-residual-in-Break-check-end .ensures .1)
+    (to-end (c .args .book .now) (c .in-Continue-header .header) (h .1 .0) (h .0)
+    (cs .0) (c .in-Continue-charts .charts) (c .in-Continue-charts .place) (cs .1) (c .as-slice .result .now) (c .as-slice .ensures) (ls .0)
+    ∙ c .in-Break-check-end .ensures tt)
 
 pub returns : need.returns
 returns g c =
     let h = c .in-Continue-header .ensures tt in
     let cs = c .in-Continue-charts .ensures tt in
     let ls = c .in-Continue-links .ensures tt in (
-      all-pass (c .args .book .now) (c .in-Continue-header .header) (h .1 .0) (h .0)
-          (cs .0) (c .in-Continue-charts .charts) (c .in-Continue-charts .place) (cs .1) (c .as-slice .result .now) (c .as-slice .ensures) (ls .0) (c .if-book-end .left),
+      to-end (c .args .book .now) (c .in-Continue-header .header) (h .1 .0) (h .0)
+          (cs .0) (c .in-Continue-charts .charts) (c .in-Continue-charts .place) (cs .1) (c .as-slice .result .now) (c .as-slice .ensures) (ls .0)
+          ∙ c .in-Continue-check-end .ensures tt .0,
       (
         book-is (c .args .book .now) (c .in-Continue-header .header) (h .1 .0) (h .0)
             (cs .0) (c .in-Continue-charts .charts) (c .in-Continue-charts .place) (cs .1) (c .as-slice .result .now) (c .as-slice .ensures) (held (c .in-Continue-links .links)) (ls .1),
