@@ -1,0 +1,6 @@
+pub mod Risen
+pub mod Charted
+pub mod Linked
+pub mod Placing
+pub mod Swept
+pub mod Flat

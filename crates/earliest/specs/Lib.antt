@@ -1,0 +1,4 @@
+pub mod Listing
+pub mod Raising
+pub mod Demands
+pub mod Positions
