@@ -13,6 +13,7 @@ use register::Register;
 use register::RemainderRegister;
 use register::Row;
 use register::ScannedRegister;
+use register::Unmade;
 use std::alloc::Global;
 
 // A row as a walk might enter it: two stations that drift apart.
@@ -49,22 +50,26 @@ fn enter_all<R: Register>(register: &mut R, count: u16) -> u16
     new
 }
 
-#[unsafe(no_mangle)]
-pub extern "C" fn register_enter_scanned(heap: Global, count: u16) -> u16
+// A register that could not be made takes no row.
+fn enter_made<R: Register + Drop>(made: Result<R, Unmade>, count: u16) -> u16
     ensures { λ r. ⌜ r ≤ count ⌝ }
 {
-    match ScannedRegister::new(heap, MOST_ROWS) {
+    match made {
         Ok(mut register) => enter_all(&mut register, count),
         Err(_) => 0,
     }
 }
 
 #[unsafe(no_mangle)]
+pub extern "C" fn register_enter_scanned(heap: Global, count: u16) -> u16
+    ensures { λ r. ⌜ r ≤ count ⌝ }
+{
+    enter_made(ScannedRegister::new(heap, MOST_ROWS), count)
+}
+
+#[unsafe(no_mangle)]
 pub extern "C" fn register_enter_remainder(heap: Global, count: u16) -> u16
     ensures { λ r. ⌜ r ≤ count ⌝ }
 {
-    match RemainderRegister::new(heap, MOST_ROWS) {
-        Ok(mut register) => enter_all(&mut register, count),
-        Err(_) => 0,
-    }
+    enter_made(RemainderRegister::new(heap, MOST_ROWS), count)
 }
