@@ -1,5 +1,5 @@
 -- Whether a book is good can be read off its bytes, so a book that is merely known to be good is good.
-use Rattle.std.proofs.Common.{◌≡◌, ℕ, Bool, true, false, ◌⊎◌, List, Some, None, Option, sym, refl, ◌∙◌, subst, inl, inr, arith}
+use Rattle.std.proofs.Common.{◌≡◌, ℕ, Bool, true, false, ◌⊎◌, Some, None, Option, sym, refl, ◌∙◌, subst, inl, inr, arith}
 use mathlib.Core.Logic.{∥∥₁_elim}
 use mathlib.Core.HLevel.{⊥_prop}
 use base.Stored.{Coded, Coded-set, coded_unit, coded_ℕ, coded_bool, coded×, coded⊎, coded_list, coded_via}

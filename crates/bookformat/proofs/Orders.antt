@@ -1,5 +1,5 @@
 -- The order of a chart by its test.
-use Rattle.std.proofs.Common.{◌≡◌, ℕ, zero, suc, ◌<◌, Bool, true, false, not, ◌&&◌, ◌||◌, ◌⊎◌, List, length, Decides, sym, refl, ap, ◌∙◌, subst, inl, inr, ⊎_elim, arith}
+use Rattle.std.proofs.Common.{◌≡◌, ℕ, zero, suc, ◌<◌, Bool, true, false, not, ◌&&◌, ◌⊎◌, List, length, Decides, sym, refl, subst, inl, inr, ⊎_elim, arith}
 use Rattle.std.proofs.lemmas.Bool.{and_parts, and_from, or_cases, or_left, or_right, not-true, not_from_false, cases_eq, cases_Bool, both_ways}
 use Rattle.bookformat.specs.declared.value.Event.{Event}
 use Rattle.bookformat.specs.Rules.{DirectlyBefore, listed_later, its_receive, ComesBefore, directly, onward, Acyclic}
@@ -71,11 +71,11 @@ module _ (es : List Event) where
   by_comes {e} {f} (directly d) = straight (length es) e f ((decides_before es e f).1 d)
   by_comes {e} {f} (onward g d rest) = through (length es) g e f (comes_first es rest) (straight (length es) e g ((decides_before es e g).1 d)) (by_comes rest)
 
-none_below : (p : ℕ → Bool) (n k : ℕ) → none_below p n ≡ true → k < n → p k ≡ false
-none_below p zero k t lt = absurd (omega arith)
-none_below p (suc n) k t lt =
+none_below_lem : (p : ℕ → Bool) (n k : ℕ) → none_below p n ≡ true → k < n → p k ≡ false
+none_below_lem p zero k t lt = absurd (omega arith)
+none_below_lem p (suc n) k t lt =
     let parts = and_parts (none_below p n) (not (p n)) t in
-    ⊎_elim (λ is. subst (λ j. p j ≡ false) (sym is) (not-true (p n) parts.1)) (λ ne. none_below p n k parts.0 (omega arith)) (cases_eq k n)
+    ⊎_elim (λ is. subst (λ j. p j ≡ false) (sym is) (not-true (p n) parts.1)) (λ ne. none_below_lem p n k parts.0 (omega arith)) (cases_eq k n)
 
 below_none : (p : ℕ → Bool) (n : ℕ) → ((k : ℕ) → k < n → p k ≡ false) → none_below p n ≡ true
 below_none p zero all = refl
@@ -84,7 +84,7 @@ below_none p (suc n) all = and_from (none_below p n) (not (p n)) (below_none p n
 -- the test decides whether no event comes before itself
 pub decides_acyclic : (es : List Event) → Decides (is_acyclic es) (Acyclic es)
 decides_acyclic es = (
-  λ t e c. both_ways (is_before_by es (length es) e e) (none_below (λ k. is_before_by es (length es) k k) (length es) e t (comes_first es c)) (by_comes es c),
+  λ t e c. both_ways (is_before_by es (length es) e e) (none_below_lem (λ k. is_before_by es (length es) k k) (length es) e t (comes_first es c)) (by_comes es c),
   λ none.
       below_none (λ e. is_before_by es (length es) e e) (length es)
       (λ e lt. ⊎_elim (λ t. absurd (none e (comes_by es (length es) e e t))) (λ f. f) (cases_Bool (is_before_by es (length es) e e))),

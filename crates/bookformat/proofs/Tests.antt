@@ -1,5 +1,5 @@
 -- Each test of a value against its rule.
-use Rattle.std.proofs.Common.{◌≡◌, ℕ, ◌<◌, ◌≤◌, Bool, true, false, not, ◌&&◌, ◌||◌, eqb, ltb, leb, ◌⊎◌, List, length, Some, None, Decides, Option, sym, refl, ap, ◌∙◌, subst, inl, inr, ⊎_elim, arith}
+use Rattle.std.proofs.Common.{◌≡◌, ℕ, ◌≤◌, Bool, true, false, not, ◌&&◌, ◌||◌, eqb, ltb, leb, ◌⊎◌, List, length, Some, None, Decides, Option, sym, refl, ap, ◌∙◌, subst, inl, inr, ⊎_elim, arith}
 use Rattle.std.proofs.lemmas.Bool.{leb-true, le-leb, eqb-true, ltb-true, lt-ltb, eq-eqb, and_parts, and_from, or_cases, or_left, or_right, false≢true}
 use Rattle.std.proofs.lemmas.Bool.Decides.{Decides-like, Decides-not, Decides-eqb, Decides-or}
 use Rattle.bookformat.specs.declared.value.Kind.{Kind}
@@ -80,11 +80,11 @@ before_test es e f (its_receive n k p) =
 pub decides_before : (es : List Event) (e f : ℕ) → Decides (is_directly_before es e f) (DirectlyBefore es e f)
 decides_before es e f = (before_rule es e f, before_test es e f)
 
-same_kind : (k l : Kind) → Decides (same_kind k l) (k ≡ l)
-same_kind Send Send = (λ e. refl, λ e. refl)
-same_kind Send Receive = (λ e. absurd (false≢true e), λ e. let z : ◌≡◌ {A = ℕ} 0 1 = cc in absurd (omega arith))
-same_kind Receive Send = (λ e. absurd (false≢true e), λ e. let z : ◌≡◌ {A = ℕ} 0 1 = cc in absurd (omega arith))
-same_kind Receive Receive = (λ e. refl, λ e. refl)
+same_kind_lem : (k l : Kind) → Decides (same_kind k l) (k ≡ l)
+same_kind_lem Send Send = (λ e. refl, λ e. refl)
+same_kind_lem Send Receive = (λ e. absurd (false≢true e), λ e. let z : ◌≡◌ {A = ℕ} 0 1 = cc in absurd (omega arith))
+same_kind_lem Receive Send = (λ e. absurd (false≢true e), λ e. let z : ◌≡◌ {A = ℕ} 0 1 = cc in absurd (omega arith))
+same_kind_lem Receive Receive = (λ e. refl, λ e. refl)
 
 pub decides_paired : (es : List Event) (e : ℕ) → Decides (is_paired es e) (Paired es e)
 decides_paired es e =
@@ -93,7 +93,7 @@ decides_paired es e =
     let back = eqb p.pair e in
     let kind = not (same_kind p.kind (event es e).kind) in
     let station = not (eqb p.station (event es e).station) in
-    let kinds = Decides-not (same_kind p.kind (event es e).kind) (same_kind p.kind (event es e).kind) in
+    let kinds = Decides-not (same_kind p.kind (event es e).kind) (same_kind_lem p.kind (event es e).kind) in
     let stations = Decides-not (eqb p.station (event es e).station) (Decides-eqb p.station (event es e).station) in (
       λ h.
           let a = and_parts (exists && back && kind) station h in

@@ -1,5 +1,5 @@
 -- What ties the tests to the rules.
-use Rattle.std.specs.Prelude.{◌≡◌, ℕ, ◌<◌, List, Some, None, slice_index}
+use Rattle.std.specs.Prelude.{◌≡◌, ℕ, ◌<◌, List, None, slice_index}
 use Rattle.bookformat.specs.Values.{BookValue}
 use Rattle.bookformat.specs.Encoding.{encode}
 use Rattle.bookformat.specs.Rules.{GoodBook}

@@ -1,11 +1,24 @@
 ghost use Rattle.std.specs.Prelude.{◌≡◌, ◌+◌, ◌<◌, ◌≤◌, [], ◌∷◌, ◌++◌, take};
 
+use std::alloc::AllocError;
+
 /// A list of at most N items that needs no heap.
-#[derive(Clone, Copy)]
+#[derive(Copy)]
 pub struct Bounded<T, const N: usize> {
     items: [T; N],
     len: usize,
     ghost within: { len ≤ N },
+}
+
+// (Not derived, so that it says of the length, too, that it is the same.)
+impl<T: Copy, const N: usize> Clone for Bounded<T, N> {
+    ghost is_clone = { λ old new. new ≡ old };
+
+    ghost is_infallible = { λ _. Unit {0} };
+
+    fn clone(&self) -> Result<Bounded<T, N>, AllocError> {
+        Ok(*self)
+    }
 }
 
 impl<T: Copy, const N: usize> Bounded<T, N> {

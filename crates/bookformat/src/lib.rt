@@ -1,4 +1,5 @@
 //! The chart book as a value, its bytes, its rules and the tests of its reader.
+#![tactic(auto)]
 
 ghost use Rattle.bookformat.specs.Laws.{TakenGood, GoodTaken, GoodRead};
 

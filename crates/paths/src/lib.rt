@@ -1,6 +1,7 @@
 //! Paths through a chart book, their datings, and the mathematics that decides them.
 //!
 //! Nothing here computes: each function's contract is a theorem, for the crates above to rest on.
+#![tactic(auto)]
 
 ghost use Rattle.paths.specs.Laws.{EventsLaw, SeesEvents, DriftLaw, BoundsLaw, WalkLaw, CycleLaw};
 ghost use Rattle.paths.specs.Laws.{ComposeLaw, FirstLaw, ClassLaw, SameClassLaw, BeginningLaw};
