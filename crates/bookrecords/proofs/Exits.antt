@@ -1,6 +1,5 @@
 -- What a reader answers where a reader that it calls refuses, and in its loops.
-use Rattle.std.proofs.Common.{◌≡◌, ℕ, ◌+◌, ◌*◌, ◌≤◌, Bool, true, false, leb, List, [], ◌∷◌, ◌++◌, map, length, IsErrAnd, Some, None, Ok, Err, Result, sym, refl, ap, ◌∙◌, subst, zero-add}
-use Rattle.std.specs.List.{range_with_len}
+use Rattle.std.proofs.Common.{◌≡◌, ℕ, ◌+◌, ◌*◌, ◌≤◌, leb, List, [], ◌∷◌, ◌++◌, length, IsErrAnd, Some, Ok, Err, Result, sym, ap, ◌∙◌, zero-add}
 use Rattle.std.proofs.lemmas.List.FromFn.{map-range_with_len_more}
 use Rattle.std.proofs.lemmas.Bool.{le-leb, cond-true}
 use Rattle.bookformat.specs.declared.fault.Fault.{Fault}

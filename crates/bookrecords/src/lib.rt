@@ -1,4 +1,5 @@
 //! The records of a book as parts of its bytes, and what each of them says.
+#![tactic(auto)]
 
 mod fields;
 mod headers;

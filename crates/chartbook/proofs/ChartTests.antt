@@ -1,12 +1,11 @@
 -- The tests of a chart, from those of its parts.
-use Rattle.std.proofs.Common.{◌≡◌, ℕ, ◌+◌, ◌*◌, ◌≤◌, Bool, true, false, eqb, leb, List, [], ◌++◌, length, Some, None, Decides, sym, refl, ap, ◌∙◌, subst, arith}
+use Rattle.std.proofs.Common.{◌≡◌, ℕ, ◌+◌, ◌*◌, ◌≤◌, Bool, true, false, eqb, leb, List, [], ◌++◌, length, Some, None, Decides, sym, refl, ap, ◌∙◌, arith}
 use Rattle.std.proofs.lemmas.Bool.Decides.{nat_tests, same_from_decides}
 use Rattle.std.proofs.lemmas.List.FromFn.{length-map-range_with_len}
 use Rattle.bookformat.specs.declared.fault.Fault.{Fault}
 use Rattle.bookformat.specs.declared.fault.Fault.TheVariants.{RecordCut, CyclicOrder}
 use Rattle.bookformat.specs.declared.value.Event.{Event}
 use Rattle.bookformat.specs.declared.value.Constraint.{Constraint}
-use Rattle.bookformat.specs.Values.{ChartValue}
 use Rattle.bookformat.specs.Rules.{Acyclic}
 use Rattle.bookformat.specs.Layout.{byte, event_at, constraint_at, records, events_at, constraints_place, chart_at}
 use Rattle.bookformat.specs.Reading.{Test, first_fault, each, head_fields, head_tests, event_tests, pair_tests, constraint_tests, chart_events, chart_pairs, chart_constraints, is_acyclic, order_tests, chart_tests}

@@ -1,4 +1,5 @@
 //! Reads a chart book from its bytes.
+#![tactic(auto)]
 
 mod charts;
 mod links;

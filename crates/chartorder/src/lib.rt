@@ -1,4 +1,5 @@
 //! The order of a chart: the closure of directly before.
+#![tactic(auto)]
 
 ghost use Rattle.std.specs.Prelude.{◌≡◌, ◌*◌, ◌≤◌, length, Decides};
 ghost use Rattle.bookformat.specs.Values.{held};

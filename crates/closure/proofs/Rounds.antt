@@ -1,11 +1,11 @@
 -- One round of the closing: the algebra, without the code.
-use Rattle.std.proofs.Common.{◌≡◌, ℕ, zero, suc, ◌+◌, ◌<◌, ◌≤◌, Bool, true, false, cond, ◌⊎◌, List, [], ◌∷◌, ◌++◌, length, sym, refl, ap, ◌∙◌, subst, inl, inr, ⊎_elim, arith}
+use Rattle.std.proofs.Common.{◌≡◌, ℕ, ◌+◌, ◌<◌, ◌≤◌, true, false, ◌⊎◌, List, [], ◌∷◌, ◌++◌, length, sym, refl, ap, ◌∙◌, subst, inl, inr, ⊎_elim, arith}
 use Rattle.std.proofs.lemmas.Bool.{cases_eq, cases_Bool, both_ways, cond-true, cond-false}
 use Rattle.closure.specs.Kinds.{Kind, Laws, AsGood, better_of}
-use Rattle.closure.specs.Walks.{Walk, weight, Bad, Attained, Best, Closure}
+use Rattle.closure.specs.Walks.{Walk, weight, Bad, Attained, Closure}
 use Rattle.closure.specs.Closings.{Near}
 use Rattle.closure.specs.Rounds.{Given}
-use Rattle.closure.proofs.Places.{Within, Distinct, Has, Shared, shared, within_more, within_join, within_left, within_mid, within_right, distinct_join, pigeons}
+use Rattle.closure.proofs.Places.{Within, Distinct, Shared, shared, within_more, within_join, within_left, within_mid, within_right, distinct_join, pigeons}
 
 -- a walk by places below k, each at most once
 pub record Path {W : Type 0} (kind : Kind W) (t : ℕ → ℕ → W) (k i j : ℕ) (w : W) : Type 0 where

@@ -1,5 +1,5 @@
 -- The kind before: linked or not.
-use Rattle.std.specs.Prelude.{ℕ, Bool, true, false}
+use Rattle.std.specs.Prelude.{Bool, true, false}
 use Rattle.closure.specs.Kinds.{Kind, Meaning}
 use Rattle.closure.specs.declared.kinds.Before.{Before}
 use Rattle.closure.specs.declared.kinds.Before.TheVariants.{Linked, Unlinked}

@@ -1,5 +1,5 @@
 -- The kind ticks: a whole number, or none.
-use Rattle.std.specs.Prelude.{ℕ, ◌+◌, ◌*◌, Bool, true, false, cond, ℤ, pos, ◌+ℤ◌, ◌≤ℤ◌, Some, None, Option, int_lt}
+use Rattle.std.specs.Prelude.{ℕ, ◌*◌, Bool, true, false, cond, ℤ, pos, ◌+ℤ◌, ◌≤ℤ◌, Some, None, Option, int_lt}
 use Rattle.closure.specs.Kinds.{Kind, Meaning}
 use Rattle.closure.specs.declared.kinds.Ticks.{Ticks}
 

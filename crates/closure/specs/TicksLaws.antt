@@ -1,11 +1,10 @@
 -- The laws of the kind ticks.
-use Rattle.std.specs.Prelude.{◌≡◌, ℕ, ◌+◌, ◌*◌, ◌≤◌, true, false, ◌⊎◌, ℤ, pos, ◌+ℤ◌, ◌≤ℤ◌, Some, None, Option, refl}
-use Rattle.std.proofs.Common.{ap, inl, inr, ⊎_elim, arith}
-use Rattle.std.specs.Int.Signed.{lt_z}
+use Rattle.std.specs.Prelude.{◌≡◌, ℕ, ◌+◌, ◌≤◌, ◌⊎◌, ℤ, pos, Some, None, Option, refl}
+use Rattle.std.proofs.Common.{ap, inl, inr, arith}
 use Rattle.std.proofs.lemmas.Int.{ints, by_lt_z}
 use Rattle.std.proofs.lemmas.Bool.{true≢false}
 use Rattle.closure.specs.Kinds.{Laws, AsGood}
-use Rattle.closure.specs.Tickings.{ticks, fewer, plus, ticks_reach}
+use Rattle.closure.specs.Tickings.{ticks, plus, ticks_reach}
 
 reflexive : (a : Option ℤ) → AsGood ticks a a
 reflexive (Some a) = grind (arith, ints)

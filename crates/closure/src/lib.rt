@@ -1,4 +1,7 @@
+#![tactic(auto)]
+
 // Closing a table of weights: one text for every kind of weight.
+
 mod kinds;
 mod tables;
 mod weights;

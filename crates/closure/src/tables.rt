@@ -46,15 +46,15 @@ fn row_after(places: usize, k: usize, s: usize) -> usize
 // The entry of row i and column j.
 fn at<W: Weight>(table: &[W], places: usize, i: usize, j: usize) -> W
     requires { (Sized places table.now) × ((i < places) × (j < places)) }
-    ensures { meaning.value result ≡ entry meaning places table.now i j }
+    ensures { W.meaning.value result ≡ entry W.meaning places table.now i j }
 {
     table[place(places, i, j)]
 }
 
 // The better of what is there and two weights in turn.
 fn improved<W: Weight>(old: W, first: W, second: W) -> W
-    requires { (meaning.kind.reach most_links (meaning.value first)) × (meaning.kind.reach most_links (meaning.value second)) }
-    ensures { meaning.value result ≡ better_of meaning.kind (meaning.kind.follow (meaning.value first) (meaning.value second)) (meaning.value old) }
+    requires { (W.meaning.kind.reach most_links (W.meaning.value first)) × (W.meaning.kind.reach most_links (W.meaning.value second)) }
+    ensures { W.meaning.value result ≡ better_of W.meaning.kind (W.meaning.kind.follow (W.meaning.value first) (W.meaning.value second)) (W.meaning.value old) }
 {
     let via = first.follow(second);
     if via.is_better(old) { via } else { old }
@@ -63,14 +63,14 @@ fn improved<W: Weight>(old: W, first: W, second: W) -> W
 // Whether the entry on the diagonal at i is better than the unit.
 fn is_bad<W: Weight>(table: &[W], places: usize, i: usize) -> bool
     requires { (Sized places table.now) × (i < places) }
-    ensures { result ≡ meaning.kind.better (entry meaning places table.now i i) meaning.kind.unit }
+    ensures { result ≡ W.meaning.kind.better (entry W.meaning places table.now i i) W.meaning.kind.unit }
 {
     at(table, places, i, i).is_better(W::unit())
 }
 
 // The index of the first weight that may not be given.
 fn first_beyond<W: Weight>(table: &[W]) -> Option<usize>
-    ensures { MatchOption result (GivenBefore meaning table.now (length table.now)) (λ p. FirstBeyond meaning table.now p) }
+    ensures { MatchOption result (GivenBefore W.meaning table.now (length table.now)) (λ p. FirstBeyond W.meaning table.now p) }
 {
     for (p, weight) in table.iter().enumerate() {
         if !weight.is_given() {
@@ -83,7 +83,7 @@ fn first_beyond<W: Weight>(table: &[W]) -> Option<usize>
 // The first place whose entry on the diagonal is better than the unit.
 fn bad_diagonal<W: Weight>(table: &[W], places: usize) -> Option<usize>
     requires { Sized places table.now }
-    ensures { MatchOption result (Fair meaning.kind places (entry meaning places table.now)) (λ p. Bad meaning.kind places (entry meaning places table.now) p) }
+    ensures { MatchOption result (Fair W.meaning.kind places (entry W.meaning places table.now)) (λ p. Bad W.meaning.kind places (entry W.meaning places table.now) p) }
 {
     for p in 0..places {
         if is_bad(table, places, p) {
@@ -96,9 +96,9 @@ fn bad_diagonal<W: Weight>(table: &[W], places: usize) -> Option<usize>
 // Lets walks go by one place more in each round, until there is a place with a bad cycle.
 fn relax<W: Weight>(table: &mut [W], places: usize) -> Option<usize>
     requires size { Sized places table.old }
-    requires given { Given meaning.kind places (entry meaning places table.old) }
-    requires fair { Fair meaning.kind places (entry meaning places table.old) }
-    ensures { MatchOption result (Closure meaning.kind places (entry meaning places table.old) (entry meaning places table.new) × Near meaning.kind places (entry meaning places table.new)) (λ p. Bad meaning.kind places (entry meaning places table.old) p) }
+    requires given { Given W.meaning.kind places (entry W.meaning places table.old) }
+    requires fair { Fair W.meaning.kind places (entry W.meaning places table.old) }
+    ensures { MatchOption result (Closure W.meaning.kind places (entry W.meaning places table.old) (entry W.meaning places table.new) × Near W.meaning.kind places (entry W.meaning places table.new)) (λ p. Bad W.meaning.kind places (entry W.meaning places table.old) p) }
 {
     let mut bad = None;
     'rounds: for k in 0..places {
@@ -122,7 +122,7 @@ fn relax<W: Weight>(table: &mut [W], places: usize) -> Option<usize>
 
 /// Closes a table of weights between up to 54 places, which the slice holds row after row, or says why not.
 pub fn close<W: Weight>(table: &mut [W], places: usize) -> Closing
-    ensures { Closes meaning places table.old table.new result }
+    ensures { Closes W.meaning places table.old table.new result }
 {
     if places > MOST_PLACES || table.len() != places * places {
         return Closing::WrongSize;

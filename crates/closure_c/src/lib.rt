@@ -1,3 +1,5 @@
+#![tactic(auto)]
+
 // Closing at ticks, for C and Rust to call.
 ghost use Rattle.closure_c.specs.Codes.{Coded};
 

@@ -10,4 +10,4 @@ pub returns-in-Linked : goal.returns-in-Linked
 returns-in-Linked c = loop_found c.args.places c.loop-e.e c.args.table.now c.loop-e-test.true c.requires.1 c.in-Linked.is
 
 pub loop-e-preserved : goal.loop-e-preserved
-loop-e-preserved c = loop_more c.args.places c.loop-e.e c.args.table.now c.loop-e-test.true c.requires.1 c.in-default.not-Linked c.loop-e.invariant
+loop-e-preserved c = loop_more c.args.places c.loop-e.e c.args.table.now c.loop-e-test.true c.requires.1 c.in_default.not-Linked c.loop-e.invariant

@@ -1,4 +1,3 @@
-use Rattle.std.proofs.Common.{◌≡◌, ℕ, ◌<◌}
 use Rattle.closure.specs.Befores.{before_meaning}
 use Rattle.closure.specs.Closings.{entry}
 use Rattle.chartorder.specs.Orders.{NoLoop}

@@ -1,12 +1,12 @@
-use Rattle.std.proofs.Common.{◌≡◌, ◌+◌, ◌*◌, get_or}
+use Rattle.std.proofs.Common.{get_or}
 use Rattle.bookrecords.specs.declared.fields.Header.{Header}
 use Rattle.bookrecords.proofs.HeaderTests.{header_read}
 use Rattle.bookrecords.proofs.headers.read_rest.Goals as goal
 
 pub returns : goal.returns
 returns g c =
-    let h = c.in-ok-part.ensures in
-    let part = c.in-ok-part.part.now in
+    let h = c.in_ok-part.ensures in
+    let part = c.in_ok-part.part.now in
     let e1 = c.from-charts.ensures in
     let e2 = c.from-links.ensures in
     let e3 = c.word-near.ensures in

@@ -4,5 +4,5 @@ use Rattle.bookrecords.proofs.records.watched_record.Goals as goal
 
 pub returns : goal.returns
 returns g c =
-    let h = c.in-ok-part.ensures in
-    part_told c.args.book.now c.in-ok-part.part.now c.args.place c.size.result h.0 h.1 (size c.args.kind) c.size.ensures
+    let h = c.in_ok-part.ensures in
+    part_told c.args.book.now c.in_ok-part.part.now c.args.place c.size.result h.0 h.1 (size c.args.kind) c.size.ensures

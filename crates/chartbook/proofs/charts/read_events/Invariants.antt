@@ -1,4 +1,4 @@
-use Rattle.std.proofs.Common.{◌≡◌, ◌+◌, ◌*◌, ◌≤◌, None}
+use Rattle.std.proofs.Common.{◌≡◌, ◌+◌, ◌*◌, None}
 use Rattle.bookformat.specs.Values.{held}
 use Rattle.bookformat.specs.Layout.{event_at, records}
 use Rattle.bookformat.specs.Reading.{first_fault, each, event_tests}

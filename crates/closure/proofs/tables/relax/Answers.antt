@@ -1,4 +1,4 @@
-use Rattle.std.proofs.Common.{◌≡◌, ℕ, ◌+◌, ◌*◌, ◌<◌, ◌≤◌, length, set, sym, refl, ap, ◌∙◌, subst, arith}
+use Rattle.std.proofs.Common.{ℕ, ◌+◌, ◌*◌, set, sym, ap, ◌∙◌, subst, arith}
 use Rattle.closure.specs.Kinds.{most_links}
 use Rattle.closure.specs.Closings.{entry}
 use Rattle.closure.proofs.Entries.{row_end}
@@ -12,12 +12,12 @@ improved-best-requires g c =
     let laws = g.met.W.Weight.laws in
     let n = c.args.places in
     let hk = c.rounds-test.true in
-    let hi = c.row-after-i.ensures.0 in
+    let hi = c.row_after-i.ensures.0 in
     let hj = c.loop-j-test.true in
     let good = c.rounds.invariant.1 in
     let mid = c.loop-j.invariant.1 _ _ good c.loop-s.invariant.1 in
     let near = near_all laws n c.rounds.k _ _ c.requires.size.0 good hk c.requires.given in (
-      subst (meaning.kind.reach most_links) (sym (c.at-head.ensures ∙ mid_col laws good hk c.loop-s.invariant.1 c.row-after-i.result hi)) (near c.row-after-i.result c.rounds.k hi hk),
+      subst (meaning.kind.reach most_links) (sym (c.at-head.ensures ∙ mid_col laws good hk c.loop-s.invariant.1 c.row_after-i.result hi)) (near c.row_after-i.result c.rounds.k hi hk),
       subst (meaning.kind.reach most_links) (sym (c.at-in-loop-j.ensures ∙ mid_row laws good hk mid c.loop-j.j hj)) (near c.rounds.k c.loop-j.j hk hj),
     )
 
@@ -31,12 +31,12 @@ loop-j-preserved g c =
     let n = c.args.places in
     let k = c.rounds.k in
     let s = c.loop-s.s in
-    let i = c.row-after-i.result in
+    let i = c.row_after-i.result in
     let j = c.loop-j.j in
     let hk = c.rounds-test.true in
-    let hi = c.row-after-i.ensures.0 in
+    let hi = c.row_after-i.ensures.0 in
     let hj = c.loop-j-test.true in
-    let turn = c.row-after-i.ensures.1 in
+    let turn = c.row_after-i.ensures.1 in
     let more : (t d : ℕ → ℕ → meaning.Value) → Good meaning.kind n k t d → Mid meaning.kind n k (s * n) d (entry meaning n c.loop-s.table) → Mid meaning.kind n k (s * n + (j + 1)) d (entry meaning n (set c.loop-j.table c.place.result c.improved-best.result)) = λ t d good before.
     let mid = c.loop-j.invariant.1 t d good before in
     let head = mid_col laws good hk before i hi in
@@ -70,10 +70,10 @@ loop-s-preserved g c =
     let n = c.args.places in
     let k = c.rounds.k in
     let s = c.loop-s.s in
-    let i = c.row-after-i.result in
+    let i = c.row_after-i.result in
     let hk = c.rounds-test.true in
-    let hi = c.row-after-i.ensures.0 in
-    let turn = c.row-after-i.ensures.1 in
+    let hi = c.row_after-i.ensures.0 in
+    let turn = c.row_after-i.ensures.1 in
     let mid = mid_to ((s + 1) * n) (row_end n s c.loop-j.j (omega arith)) (c.loop-j.invariant.1 _ _ c.rounds.invariant.1 c.loop-s.invariant.1) in
     let made = mid.done i i hi hi (row_done n k s i i hi turn) in
     let fair = fair_more laws n k s i (entry g.W.Weight.meaning n c.rounds.table) hk hi turn c.loop-s.invariant.2 (cc) in (
