@@ -1,5 +1,5 @@
 -- The stations of a full chart, one more at a time.
-use Rattle.std.proofs.Common.{◌≡◌, ℕ, ◌+◌, ◌<◌, ◌≤◌, Bool, true, false, cond, List, [], ◌∷◌, ◌++◌, map, length, get_or, take, filter, sym, refl, ap, ◌∙◌, subst, append_assoc, zero-add, arith, length-take}
+use Rattle.std.proofs.Common.{◌≡◌, ℕ, ◌+◌, ◌<◌, ◌≤◌, Bool, true, false, cond, List, [], ◌∷◌, ◌++◌, map, length, get_or, take, filter, sym, ap, ◌∙◌, append_assoc, zero-add, arith, length-take}
 use Rattle.std.specs.List.{range_with_len}
 use Rattle.std.proofs.lemmas.List.FromFn.{filter_of_map_range_with_len_more}
 use Rattle.std.proofs.lemmas.List.{map_more, map-id, append-nil, take_all}
@@ -8,8 +8,6 @@ use Rattle.bookformat.specs.declared.value.Event.{Event}
 use Rattle.bookformat.specs.Values.{ChartValue, BookValue, held}
 use Rattle.bookformat.specs.Rules.{no_event}
 use Rattle.bookformat.specs.Reading.{is_silent}
-use Rattle.paths.specs.Charts.{event_stations}
-use Rattle.fullchart.specs.declared.FullChart.{FullChart}
 use Rattle.fullchart.specs.Finds.{WorkingHeld, SilentAdded, IsFull}
 
 pub working_more : (es : List Event) (n s : ℕ) (a b : Bounded ℕ 48) → n < length es → WorkingHeld es n a → s ≡ (get_or es n no_event).station → held b ≡ held a ++ s ∷ [] → b.len ≡ a.len + 1 → WorkingHeld es (n + 1) b

@@ -1,4 +1,5 @@
 //! The full chart: the working events, and an event for each silent station.
+#![tactic(auto)]
 
 ghost use Rattle.std.specs.Prelude.{◌≡◌, ◌≤◌, length, nat_lt};
 ghost use Rattle.bookformat.specs.Values.{held, chart_value, book_value};

@@ -7,7 +7,7 @@ use Rattle.chartbook.specs.Reads.{Refused}
 use Rattle.paths.specs.Paths.{Leaves}
 use Rattle.paths.specs.Listing.{events_of}
 use Rattle.judge.specs.declared.judgement.Judgement.{Judgement}
-use Rattle.judge.specs.Judging.{GoesOn, AtFault, bad_link, too_many, FirstAtFault, GoodPath, Judged, bad_path, wrong_count, Judges, bad_book}
+use Rattle.judge.specs.Judging.{AtFault, bad_link, too_many, FirstAtFault, GoodPath, Judged, bad_path, wrong_count, Judges, bad_book}
 use Rattle.judge.specs.Walking.{StandsAt, PathChecked, fault, fine}
 
 module _ (b : BookValue) (path : List ℕ) (k at : ℕ) (stands : StandsAt b path k at) where

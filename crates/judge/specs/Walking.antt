@@ -5,7 +5,7 @@ use Rattle.bookformat.specs.declared.fault.Fault.TheVariants.{BadLinkNumber, Wro
 use Rattle.bookformat.specs.Values.{BookValue}
 use Rattle.paths.specs.Paths.{link, Leaves, chart_number}
 use Rattle.paths.specs.Listing.{events_of}
-use Rattle.judge.specs.Judging.{GoesOn, AtFault, FirstAtFault, GoodPath}
+use Rattle.judge.specs.Judging.{GoesOn, FirstAtFault, GoodPath}
 
 -- where a link leads from the chart with a number
 abbrev pub GoesTo : BookValue → ℕ → ℕ → Option ℕ → Type 0

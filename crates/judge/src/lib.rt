@@ -1,4 +1,5 @@
 //! Judges written dates: are they a dating of a path through a chart book?
+#![tactic(auto)]
 
 ghost use Rattle.bookformat.specs.Values.{book_value};
 ghost use Rattle.bookformat.specs.Rules.{GoodBook};

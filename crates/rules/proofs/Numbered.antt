@@ -1,5 +1,5 @@
 -- The chart with a number: what its dates are, and what all tests together decide.
-use Rattle.std.proofs.Common.{◌≡◌, ℕ, ◌+◌, ◌-◌, ◌<◌, ◌≤◌, Bool, true, false, List, map, length, get_or, take, Some, None, Decides, Option, sym, refl, ap, ◌∙◌, subst, ap₂, inl, inr, arith, length-take}
+use Rattle.std.proofs.Common.{◌≡◌, ℕ, ◌+◌, ◌-◌, ◌<◌, ◌≤◌, Bool, List, map, length, get_or, take, Decides, sym, ap, ◌∙◌, subst, ap₂, inl, inr, arith, length-take}
 use native.Mathlib.Decide.{dec_lt}
 use Rattle.std.proofs.lemmas.Bool.Decides.{Decides-like}
 use Rattle.std.proofs.lemmas.List.{length-map, get_or-map}
@@ -9,7 +9,7 @@ use Rattle.bookformat.specs.declared.value.Chart.{Chart}
 use Rattle.bookformat.specs.Values.{ChartValue, BookValue, chart_value}
 use Rattle.bookformat.specs.Rules.{no_chart, chart, GoodChart, GoodBook}
 use Rattle.paths.specs.Charts.{Working, event_count}
-use Rattle.paths.specs.Datings.{drift, KeepsChart, SilentPair}
+use Rattle.paths.specs.Datings.{drift, KeepsChart}
 use Rattle.paths.proofs.Full.{working_exists}
 use Rattle.paths.proofs.Facts.{ChartFacts, chart_facts}
 use Rattle.fullchart.specs.declared.FullChart.{FullChart}

@@ -1,4 +1,5 @@
 //! The rules of a dating, tested for one chart and for one link.
+#![tactic(auto)]
 
 ghost use Rattle.std.specs.Prelude.{◌≡◌, ℕ, ◌<◌, ◌≤◌, length, Decides};
 ghost use Rattle.bookformat.specs.Values.{held, chart_value, book_value};

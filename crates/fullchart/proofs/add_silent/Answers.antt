@@ -3,7 +3,7 @@ use Rattle.bookformat.specs.Reading.{is_silent}
 use Rattle.fullchart.specs.Finds.{SilentAdded}
 use Rattle.fullchart.proofs.Listed.{silent_none, silent_more, silent_same}
 use Rattle.fullchart.proofs.add_silent.Goals as goal
-use Rattle.fullchart.proofs.add_silent.Goals.{then-is-silent, else-is-silent}
+use Rattle.fullchart.proofs.add_silent.Goals.{then-is_silent, else-is_silent}
 
 pub loop-p-init : goal.loop-p-init
 loop-p-init c = silent_none c.args.stations.now c.args.events.now
@@ -13,4 +13,4 @@ loop-p-preserved c =
     let es = c.args.events.now in
     let s = c.args.stations.now in
     let p = c.loop-p.p in
-    elim c.if-is-silent.branch [ then-is-silent w ↦ subst (λ t. SilentAdded s t es (p + 1)) (sym w.stations-is) (silent_more s c.loop-p.stations w.push.new.self es p (ap (is_silent es) (sym c.from.ensures) ∙ sym w.if-is-silent.ensures) c.loop-p.invariant w.push.ensures.items w.push.ensures.len) | else-is-silent w ↦ subst (λ t. SilentAdded s t es (p + 1)) (sym w.stations-is) (silent_same s c.loop-p.stations es p (ap (is_silent es) (sym c.from.ensures) ∙ sym w.if-is-silent.ensures) c.loop-p.invariant) ]
+    elim c.if-is_silent.branch [ then-is_silent w ↦ subst (λ t. SilentAdded s t es (p + 1)) (sym w.stations-is) (silent_more s c.loop-p.stations w.push.new.self es p (ap (is_silent es) (sym c.from.ensures) ∙ sym w.if-is_silent.ensures) c.loop-p.invariant w.push.ensures.items w.push.ensures.len) | else-is_silent w ↦ subst (λ t. SilentAdded s t es (p + 1)) (sym w.stations-is) (silent_same s c.loop-p.stations es p (ap (is_silent es) (sym c.from.ensures) ∙ sym w.if-is_silent.ensures) c.loop-p.invariant) ]

@@ -4,10 +4,10 @@ use Rattle.judge.specs.Walking.{fault, fine}
 use Rattle.judge.proofs.Faults.{link_fails, count_fails, all_go_on}
 use Rattle.judge.proofs.path.check_path.Goals as goal
 
-pub returns-then-is-too-many : goal.returns-then-is-too-many
-returns-then-is-too-many c =
+pub returns-then-is_too_many : goal.returns-then-is_too_many
+returns-then-is_too_many c =
     let k = c.loop-position.position in
-    fault k (count_fails (book_value c.args.book.now) c.args.links.now k c.loop-position.at c.loop-position.invariant c.loop-position-test.true (c.is-too-many.ensures.0 c.if-is-too-many.true)) refl
+    fault k (count_fails (book_value c.args.book.now) c.args.links.now k c.loop-position.at c.loop-position.invariant c.loop-position-test.true (c.is_too_many.ensures.0 c.if-is_too_many.true)) refl
 
 pub returns-in-None : goal.returns-in-None
 returns-in-None c =
