@@ -1,4 +1,5 @@
 //! Rows, and what every register of rows means.
+#![tactic(auto)]
 
 mod interface;
 mod row;

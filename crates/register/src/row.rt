@@ -1,5 +1,7 @@
 // Rows, and what makes two rows the same.
-ghost use Rattle.std.specs.Prelude.{◌≡◌, Decides};
+ghost use Rattle.std.specs.Prelude.{◌≡◌, nat_eq, Decides};
+ghost use Rattle.std.specs.Ordering.{int_eq, on, eq_of_both};
+ghost use Rattle.std.specs.Cmp.Lexicographic.{pointwise};
 ghost use Rattle.std.specs.Cmp.Rules.{comparing};
 ghost use Rattle.std.proofs.Common.{rules};
 
@@ -26,13 +28,16 @@ pub struct Row {
     pub origin: Option<Origin>,
 }
 
-// (A derived one would say nothing of the entries.)
 impl PartialEq for Class {
-    ghost equals = { λ a b r. Decides r (a ≡ b) };
+    ghost eq = { eq_of_both (on (λ c. c.chart) nat_eq) (on (λ c. c.profile.entries) (pointwise int_eq)) };
 
     ghost laws = { Prim.search (comparing, rules) };
 
-    fn eq(&self, other: &Class) -> bool {
+    /// Are they the same class?
+    fn eq(&self, other: &Class) -> bool
+        ensures computed { result ≡ eq_of_both (on (λ c. c.chart) nat_eq) (on (λ c. c.profile.entries) (pointwise int_eq)) self.now other.now }
+        ensures decides { Decides result (self.now ≡ other.now) }
+    {
         self.chart == other.chart && self.profile == other.profile
     }
 }

@@ -1,26 +1,20 @@
+#![tactic(auto)]
+
 // Both registers behind C functions, for the benchmark.
+
 ghost use Rattle.std.specs.Prelude.{◌≡◌, ◌+◌, ◌≤◌, length};
-ghost use Rattle.profile.specs.Ranges.{SmallEntry};
 
 use register::{Class, Entered, MOST_ROWS, Origin, Profile, Register, Row, Unmade};
 use remainder::RemainderRegister;
 use scanned::ScannedRegister;
 use std::alloc::Global;
 
-// How far one station is ahead of another, and the other of it.
-fn drifts(number: u16) -> (i16, i16)
-    ensures { (SmallEntry result.0) × (SmallEntry result.1) }
-{
-    let drift = (number % 8192) as i16;
-    (drift, -drift)
-}
-
 // A row as a walk might enter it: two stations that drift apart.
 fn row(number: u16) -> Row {
-    let (ahead, behind) = drifts(number);
+    let drift = (number % 8192) as i16;
     let mut entries = [0i16; 64];
-    entries[1] = ahead;
-    entries[8] = behind;
+    entries[1] = drift;
+    entries[8] = -drift;
     Row {
         class: Class {
             chart: 1,
@@ -35,7 +29,7 @@ fn row(number: u16) -> Row {
 
 // Enters as many rows in turn, and answers how many of them were new.
 fn enter_all<R: Register>(register: &mut R, count: u16) -> u16
-    ensures grows { length (rows register.new) ≡ length (rows register.old) + result }
+    ensures grows { length (R.rows register.new) ≡ length (R.rows register.old) + result }
     ensures few { result ≤ count }
 {
     let mut new = 0u16;

@@ -1,11 +1,12 @@
 //! A register whose rows are found by the remainder of a sum over their numbers.
+#![tactic(auto)]
 
 ghost use Rattle.std.specs.Prelude.{◌≡◌, ◌<◌, ◌≤◌, length, vec_len, vec_capacity, fold};
 ghost use Rattle.remainder.specs.Chains.{summed, class_sum, in_chain, Chained};
 ghost use Rattle.register.specs.Making.{Makes};
 ghost use Rattle.register.specs.Meaning.{Finds};
 ghost use Rattle.rowstore.specs.Of.{store_rows, store_capacity};
-ghost use Rattle.std.proofs.Common.{rules, arith};
+ghost use Rattle.std.proofs.Common.{rules};
 
 use register::{Class, Entered, Register, Row, Unmade};
 use rowstore::Store;
@@ -88,9 +89,9 @@ impl Register for RemainderRegister {
 
     ghost capacity = { λ s. store_capacity s.store };
 
-    ghost within = { first_of (Prim.search rules, Prim.grind (arith, Self.row.coded.inj)) };
+    ghost within = { Prim.search rules };
 
-    ghost limited = { first_of (Prim.search rules, Prim.grind (arith, Self.row.coded.inj)) };
+    ghost limited = { Prim.search rules };
 
     fn enter(&mut self, row: &Row) -> Entered {
         let chain = self.chain(&row.class);

@@ -1,4 +1,5 @@
 //! Rows in memory that is set aside once, so that no later call has to ask for any.
+#![tactic(auto)]
 
 ghost use Rattle.std.specs.Prelude.{◌≡◌, ◌<◌, ◌≤◌, [], ◌∷◌, ◌++◌, length, vec_len, vec_capacity, Decides};
 ghost use Rattle.register.specs.Making.{Makes};

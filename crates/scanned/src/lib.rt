@@ -1,4 +1,5 @@
 //! A register whose rows are compared in turn.
+#![tactic(auto)]
 
 ghost use Rattle.register.specs.Making.{Makes};
 ghost use Rattle.register.specs.Meaning.{Finds};

@@ -1,4 +1,5 @@
 //! The bytes of the books that several crates of tests share.
+#![tactic(auto)]
 
 /// Two stations, near and far 3. Chart 0 has a message of 3 ticks; charts 1 and 2 have a message, and chart 2 is final.
 /// Links 0 -> 1 and 1 -> 1 take 2 and 1 ticks, link 1 -> 2 takes none.

@@ -42,4 +42,4 @@ loop-link-preserved c =
     look_next _ _ _ _ c.args.self.now.chained c.args.class.now _ _ _ c.loop-link.invariant c.in-Some.is differs read
 
 pub returns : goal.returns
-returns c = look_ends _ _ _ _ c.args.self.now.chained c.args.class.now _ c.loop-link.invariant c.in-default.is
+returns c = look_ends _ _ _ _ c.args.self.now.chained c.args.class.now _ c.loop-link.invariant c.in_default.is

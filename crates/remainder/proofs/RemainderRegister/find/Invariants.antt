@@ -1,4 +1,4 @@
-use Rattle.std.proofs.Common.{vec_items, vec_len}
+use Rattle.std.proofs.Common.{vec_len}
 use Rattle.rowstore.specs.Of.{store_rows}
 use Rattle.remainder.proofs.Chains.{reach, Ahead}
 use Rattle.remainder.proofs.RemainderRegister.find.Given as goal
