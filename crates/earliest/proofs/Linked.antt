@@ -5,7 +5,7 @@ use Rattle.bookformat.specs.declared.value.Interval.{Interval}
 use Rattle.bookformat.specs.declared.value.Link.{Link}
 use Rattle.bookformat.specs.Values.{ChartValue, BookValue, held}
 use Rattle.bookformat.specs.Rules.{chart, unbounded, GoodBook}
-use Rattle.paths.specs.Charts.{event_stations, On, First, Last}
+use Rattle.paths.specs.Charts.{event_stations, First, Last}
 use Rattle.paths.specs.Datings.{Within, interval}
 use Rattle.paths.specs.Paths.{link}
 use Rattle.paths.proofs.Facts.{lower_most}

@@ -1,5 +1,5 @@
 -- How dates rise, one demand after another.
-use Rattle.std.proofs.Common.{◌≡◌, ℕ, ◌+◌, ◌-◌, ◌^◌, ◌<◌, ◌≤◌, Bool, true, false, ◌||◌, ltb, ◌≢◌, List, length, get_or, set, Some, None, sum, Option, sym, refl, ap, ◌∙◌, subst, arith, below_more}
+use Rattle.std.proofs.Common.{◌≡◌, ℕ, ◌+◌, ◌-◌, ◌^◌, ◌<◌, ◌≤◌, Bool, true, false, ◌||◌, ltb, List, length, get_or, set, Some, None, sum, Option, sym, refl, ap, ◌∙◌, subst, arith, below_more}
 use native.Mathlib.Decide.{ℕ_discrete}
 use Rattle.std.proofs.lemmas.List.Sums.{sum_by-set}
 use Rattle.std.proofs.lemmas.List.{length-set, get_or-set_same, get_or-set_other}
@@ -8,7 +8,6 @@ use Rattle.bookformat.specs.declared.value.Interval.{Interval}
 use Rattle.bookformat.specs.declared.value.Event.{Event}
 use Rattle.bookformat.specs.declared.value.Constraint.{Constraint}
 use Rattle.bookformat.specs.Values.{BookValue}
-use Rattle.bookformat.specs.Rules.{DirectlyBefore}
 use Rattle.bookformat.specs.Reading.{is_directly_before}
 use Rattle.bookformat.proofs.Tests.{decides_before}
 use Rattle.paths.specs.Datings.{Within, drift_of}

@@ -1,3 +1,4 @@
+pub mod Listing
 pub mod Raising
 pub mod Demands
 pub mod Positions

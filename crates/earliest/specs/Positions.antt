@@ -1,12 +1,12 @@
 -- The charts and links along a path, with their dates in one list.
-use Rattle.std.specs.Prelude.{◌≡◌, ℕ, suc, ◌+◌, ◌<◌, List, length, slice_index}
+use Rattle.std.specs.Prelude.{◌≡◌, ℕ, suc, ◌+◌, ◌<◌, ◌≤◌, List, length, slice_index}
 use Rattle.bookformat.specs.Values.{BookValue}
 use Rattle.bookformat.specs.Rules.{chart}
 use Rattle.paths.specs.Paths.{Leaves, link_at, chart_number, chart_at}
 use Rattle.paths.specs.Datings.{Dating}
-use Rattle.paths.specs.Listing.{events_before, events_of}
 use Rattle.fullchart.specs.Finds.{IsFull}
 use Rattle.earliest.specs.declared.stops.Stop.{Stop}
+use Rattle.earliest.specs.Listing.{offset, total}
 use Rattle.earliest.specs.Raising.{date_at, Below}
 use Rattle.earliest.specs.Demands.{ChartKept, LinkKept}
 
@@ -20,14 +20,14 @@ pub record At (b : BookValue) (path : List ℕ) (k : ℕ) (s : Stop) : Type 0 wh
   pub number : s.number ≡ chart_number b path k
   pub exists : s.number < length b.charts
   pub full : IsFull b (chart b s.number) s.full
-  pub first : s.first ≡ events_before b path k
+  pub first : s.first ≡ offset b path k
 
 -- the rules of the chart at position k, and of the link that leaves it
 abbrev pub ChartAt : BookValue → List ℕ → ℕ → (ℕ → ℕ) → Type 0
-ChartAt b path k z = ChartKept b (chart_at b path k) (events_before b path k) z
+ChartAt b path k z = ChartKept b (chart_at b path k) (offset b path k) z
 
 abbrev pub LinkAt : BookValue → List ℕ → ℕ → (ℕ → ℕ) → Type 0
-LinkAt b path k z = LinkKept b (link_at b path k) (chart_at b path k) (events_before b path k) (chart_at b path (suc k)) (events_before b path (suc k)) z
+LinkAt b path k z = LinkKept b (link_at b path k) (chart_at b path k) (offset b path k) (chart_at b path (suc k)) (offset b path (suc k)) z
 
 -- those of the link that leaves position k, and of the chart that it enters or leaves
 abbrev pub Entering : BookValue → List ℕ → ℕ → (ℕ → ℕ) → Type 0
@@ -41,11 +41,18 @@ pub record Crossing (b : BookValue) (path : List ℕ) (k : ℕ) (left entered : 
   pub inside : k < length path
   pub left_at : At b path k left
   pub entered_at : At b path (k + 1) entered
-  pub long : room ≡ events_of b path
+  pub long : room ≡ total b path
 
 -- all rules
 abbrev pub PathKept : BookValue → List ℕ → (ℕ → ℕ) → Type 0
-PathKept b path z = Dating b path (λ k e. z (events_before b path k + e))
+PathKept b path z = Dating b path (λ k e. z (offset b path k + e))
+
+-- dates above those in the list keep all rules, and fit 32 bits with room for any interval's end
+pub record Ceiling (b : BookValue) (path l : List ℕ) : Type 0 where
+  pub dates : ℕ → ℕ
+  pub kept : PathKept b path dates
+  pub above : Below l dates
+  pub small : (k : ℕ) → k < length l → dates k ≤ 81910000
 
 -- no dates that keep all rules are below those in the list, which do
 abbrev pub Least : BookValue → List ℕ → List ℕ → Type 0

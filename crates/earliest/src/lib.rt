@@ -1,4 +1,5 @@
 //! The earliest dating of a path.
+#![tactic(auto)]
 
 ghost use Rattle.std.specs.Prelude.{◌≡◌, ℕ, ◌<◌, ◌≤◌, length, drop, Decides, slice_index};
 ghost use Rattle.bookformat.specs.Values.{book_value};
@@ -6,6 +7,7 @@ ghost use Rattle.bookformat.specs.Rules.{GoodBook};
 ghost use Rattle.paths.specs.Paths.{Path};
 ghost use Rattle.paths.specs.Datings.{Datable, Earliest};
 ghost use Rattle.paths.specs.Listing.{events_of, written};
+ghost use Rattle.earliest.specs.Listing.{total, dates_of};
 
 use bookformat::Book;
 use stops::{end, finish, leaves, link_of};
@@ -50,10 +52,10 @@ pub fn event_count(book: &Book, links: &[u8]) -> usize
     end(&finish(book, links))
 }
 
-/// Writes the earliest dating of a path to the front of the space, in order of path and event number,
-/// and says how many dates those are. The path is given by its link numbers. Where it has no dating,
-/// what is written there says nothing.
-pub fn earliest_dates(book: &Book, links: &[u8], space: &mut [u32]) -> usize
+/// Writes the earliest dating of a path, if it has one, to the front of the space, in order of path and
+/// event number, and says how many dates those are. The path is given by its link numbers. Where it has no
+/// dating, what is written there says nothing.
+pub fn earliest_dates_if_datable(book: &Book, links: &[u8], space: &mut [u32]) -> usize
     requires good { GoodBook (book_value book.now) }
     requires path { Path (book_value book.now) links.now }
     requires few { length links.now ≤ 4095 }
@@ -68,4 +70,19 @@ pub fn earliest_dates(book: &Book, links: &[u8], space: &mut [u32]) -> usize
     clear(dates);
     rise(dates, book, links, last);
     count
+}
+
+/// Writes the earliest dating of a path that has one to the front of the space, in order of path and
+/// event number, and says how many dates those are. The path is given by its link numbers.
+pub fn earliest_dates(book: &Book, links: &[u8], space: &mut [u32]) -> usize
+    requires good { GoodBook (book_value book.now) }
+    requires path { Path (book_value book.now) links.now }
+    requires few { length links.now ≤ 4095 }
+    requires datable { Datable (book_value book.now) links.now }
+    requires room { total (book_value book.now) links.now ≤ length space.old }
+    ensures count { result ≡ total (book_value book.now) links.now }
+    ensures dates { Earliest (book_value book.now) links.now (dates_of (book_value book.now) links.now space.new) }
+    ensures rest { drop result space.new ≡ drop result space.old }
+{
+    earliest_dates_if_datable(book, links, space)
 }

@@ -1,10 +1,11 @@
 //! Tests of the earliest dating. They stand in a crate of their own, since a crate with tests is proved twice.
+#![tactic(auto)]
 
 #[cfg(test)]
 mod tests {
     use bookformat::Fault;
     use chartbook::read_book;
-    use earliest::{earliest_dates, event_count, is_path};
+    use earliest::{earliest_dates_if_datable, event_count, is_path};
     use std::test::Fail;
 
     // Two stations, near and far 3. Chart 0 has a message of 3 ticks; charts 1 and 2 have a message.
@@ -42,7 +43,7 @@ mod tests {
         if event_count(&book, links) > space.len() {
             return Ok(None);
         }
-        Ok(Some(earliest_dates(&book, links, space)))
+        Ok(Some(earliest_dates_if_datable(&book, links, space)))
     }
 
     #[test]

@@ -141,11 +141,11 @@ module _ (b : BookValue) (good : GoodBook b) (c : ChartValue) (facts : ChartFact
       few p h = omega (arith, good.stations_most)
 
       reads : Reads b c first D (entries_of a)
-      reads p q e f h = (read.1 p q (few p h.p_exists) (few q h.q_exists)).found e f (last_on p e h.p_last) (last_on q f h.q_last)
+      reads p q e f h = (read p q (few p h.p_exists) (few q h.q_exists)).found e f (last_on p e h.p_last) (last_on q f h.q_last)
 
       unused : (p q : ℕ) → p < 8 → q < 8 → (b.stations ≤ p) ⊎ (b.stations ≤ q) → entries_of a p q ≡ pos 0
-      unused p q hp hq (inl h) = (read.1 p q hp hq).absent (inl (no_event_lem p h))
-      unused p q hp hq (inr h) = (read.1 p q hp hq).absent (inr (no_event_lem q h))
+      unused p q hp hq (inl h) = (read p q hp hq).absent (inl (no_event_lem p h))
+      unused p q hp hq (inr h) = (read p q hp hq).absent (inr (no_event_lem q h))
 
       nought : (w : ℤ) → w ≡ pos 0 → WithinFar b w
       nought w e = record { most = omega (arith, ints); least = omega (arith, ints) }
@@ -175,4 +175,4 @@ module _ (b : BookValue) (good : GoodBook b) (c : ChartValue) (facts : ChartFact
           subst (λ i. WithinTicks 10000 (get_or a i (pos 0))) e (small (entries_of a (k / 8) (k % 8)) (within (k / 8) (k % 8) (div_below k 8 8 (omega arith) (omega arith)) (mod_below k 8 (omega arith))))
 
       pub profile : Largest b c S dates (entries_of a) × Tidy b a
-      profile = (decides.profile D walks (entries_of a) reads, record { sized = read.0; within = within; unused = unused; in_range = in_range })
+      profile = (decides.profile D walks (entries_of a) reads, record { within = within; unused = unused; in_range = in_range })

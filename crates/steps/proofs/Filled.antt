@@ -7,7 +7,7 @@ use Rattle.std.proofs.lemmas.Nat.{div-mul-add, mod-mul-add, div_below, mod_below
 use Rattle.std.proofs.lemmas.Bool.{eq-eqb, ne_eqb}
 use Rattle.bookformat.specs.declared.value.Interval.{Interval}
 use Rattle.closure.specs.declared.kinds.Ticks.{Ticks}
-use Rattle.closure.specs.Closings.{weight_at, entry, Sized, GivenBefore}
+use Rattle.closure.specs.Closings.{weight_at, Sized, GivenBefore}
 use Rattle.closure.specs.Tickings.{fewer, ticks_reach, ticks_value, ticks_meaning, WithinTicks}
 use Rattle.closure.proofs.Entries.{place_below, same_row, same_column, write_same, write_other}
 use Rattle.paths.specs.Datings.{Within}

@@ -59,13 +59,10 @@ module _ (D : Table) (first : ℕ) (events : List ℕ) where
       v = to_z w16 (of_z w16 w)
 
   pub read_all : (n : ℕ) (a : List ℤ) → 64 ≤ n → ReadBelow n a → ProfileRead D first events a
-  read_all n a all below = (
-    below.0,
-    λ p q hp hq.
-        let k = 8 * p + q in
-        let e : k ≡ p * 8 + q = omega arith in
-        subst₂ (λ x y. EntryRead D first events x y (get_or a k (pos 0))) (ap (λ i. i / 8) e ∙ div-mul-add p 8 q hq) (ap (λ i. i % 8) e ∙ mod-mul-add p 8 q hq) (below.1 k (omega arith)),
-  )
+  read_all n a all below p q hp hq =
+      let k = 8 * p + q in
+      let e : k ≡ p * 8 + q = omega arith in
+      subst₂ (λ x y. EntryRead D first events x y (get_or a k (pos 0))) (ap (λ i. i / 8) e ∙ div-mul-add p 8 q hq) (ap (λ i. i % 8) e ∙ mod-mul-add p 8 q hq) (below.1 k (omega arith))
 
 -- What closing answers
 

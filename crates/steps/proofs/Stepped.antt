@@ -16,7 +16,7 @@ use Rattle.paths.proofs.Tabled.{chart_decides, step_decides}
 use Rattle.steps.specs.Fillings.{table_of, Blank, Adds}
 use Rattle.steps.specs.Parts.{ProfileKept, CrossingsKept}
 use Rattle.steps.specs.Readings.{ClosedRead}
-use Rattle.steps.specs.Answers.{ChartEntries, StepEntries}
+use Rattle.steps.specs.Answers.{ChartAnswer, StepAnswer}
 use Rattle.steps.proofs.Filled.{adds_then}
 use Rattle.steps.proofs.Charted.{says, no_solution, profile}
 
@@ -34,7 +34,7 @@ module _ (b : BookValue) (good : GoodBook b) (c : ChartValue) (n : ℕ) (l m : L
       let said = says n l m (λ z. KeepsChart b c (λ e. z (0 + e))) (KeepsChart b c) blank adds (alone b c) in
       subst (λ k. TableDecides b c ((d : ℕ → ℕ) × KeepsChart b c d) (λ s. s.0) k 0 (table_of n m)) (sym all) (chart_decides b good c (table_of n m) (subst (λ k. Says k (KeepsChart b c) (table_of n m)) all said))
 
-  pub chart_answer : ChartFacts b c → (events : List ℕ) → events ≡ event_stations b c → (r : Option (List ℤ)) → ClosedRead n (table_of n m) 0 events r → ChartEntries b c r
+  pub chart_answer : ChartFacts b c → (events : List ℕ) → events ≡ event_stations b c → (r : Option (List ℤ)) → ClosedRead n (table_of n m) 0 events r → ChartAnswer b c r
   chart_answer facts events is None bad = λ d h. no_solution b good c facts events is ((d : ℕ → ℕ) × KeepsChart b c d) (λ s. s.0) n 0 (table_of n m) chart_table bad (d, h)
   chart_answer facts events is (Some a) (D, walks, read) = profile b good c facts events is ((d : ℕ → ℕ) × KeepsChart b c d) (λ s. s.0) n 0 (table_of n m) chart_table a D walks read
 
@@ -77,6 +77,6 @@ module _ (b : BookValue) (l : Link) (P : ℕ → ℕ → ℤ) (events : List ℕ
         let said = says n k s Parts K blank added whole in
         subst₂ (λ i j. TableDecides b (enters b l) (Solution b l P) (λ t. t.1) i j (table_of n s)) (sym places) (sym same) (step_decides b good l P (table_of n s) (subst (λ i. Says i K (table_of n s)) places said))
 
-    pub step_answer : ChartFacts b (enters b l) → (r : Option (List ℤ)) → ClosedRead n (table_of n s) stations events r → StepEntries b l P r
+    pub step_answer : ChartFacts b (enters b l) → (r : Option (List ℤ)) → ClosedRead n (table_of n s) stations events r → StepAnswer b l P r
     step_answer facts None bad = no_solution b good (enters b l) facts events is (Solution b l P) (λ t. t.1) n stations (table_of n s) step_table bad
     step_answer facts (Some a) (D, walks, read) = profile b good (enters b l) facts events is (Solution b l P) (λ t. t.1) n stations (table_of n s) step_table a D walks read

@@ -7,34 +7,23 @@ use Rattle.paths.specs.Datings.{KeepsChart}
 use Rattle.paths.specs.Profiles.{ChartProfile, WithinFar}
 use Rattle.paths.specs.Steps.{Solution, StepProfile}
 use Rattle.profile.specs.Ranges.{InRange}
-use Rattle.profile.specs.declared.Profile.{Profile}
 use Rattle.steps.specs.Parts.{entries_of}
 
--- there are 64 entries, each within far, and those of unused stations are 0
+-- each entry is within far, and those of unused stations are 0
 pub record Tidy (b : BookValue) (a : List ℤ) : Type 0 where
-  pub sized : length a ≡ 64
   pub within : (p q : ℕ) → p < 8 → q < 8 → WithinFar b (entries_of a p q)
   pub unused : (p q : ℕ) → p < 8 → q < 8 → (b.stations ≤ p) ⊎ (b.stations ≤ q) → entries_of a p q ≡ pos 0
   pub in_range : InRange a
 
--- the entries of the profile of the chart alone, or none: then it has no dating
-abbrev pub ChartEntries : BookValue → ChartValue → Option (List ℤ) → Type 0
-ChartEntries b c None = (d : ℕ → ℕ) → KeepsChart b c d → ⊥
-ChartEntries b c (Some a) = ChartProfile b c (entries_of a) × Tidy b a
+-- the profile of the chart alone, or none: then it has no dating
+abbrev pub ChartAnswer : BookValue → ChartValue → Option (List ℤ) → Type 0
+ChartAnswer b c None = (d : ℕ → ℕ) → KeepsChart b c d → ⊥
+ChartAnswer b c (Some a) = ChartProfile b c (entries_of a) × Tidy b a
 
--- the entries of the profile after the step from the profile P over the link l, or none: then the step has no solution
-abbrev pub StepEntries : BookValue → Link → (ℕ → ℕ → ℤ) → Option (List ℤ) → Type 0
-StepEntries b l P None = Solution b l P → ⊥
-StepEntries b l P (Some a) = StepProfile b l P (entries_of a) × Tidy b a
-
--- the same, of the profile that has these entries
-abbrev pub ChartAnswer : BookValue → ChartValue → Option Profile → Type 0
-ChartAnswer b c None = ChartEntries b c None
-ChartAnswer b c (Some profile) = ChartEntries b c (Some profile.entries)
-
-abbrev pub StepAnswer : BookValue → Link → (ℕ → ℕ → ℤ) → Option Profile → Type 0
-StepAnswer b l P None = StepEntries b l P None
-StepAnswer b l P (Some profile) = StepEntries b l P (Some profile.entries)
+-- the profile after the step from the profile P over the link l, or none: then the step has no solution
+abbrev pub StepAnswer : BookValue → Link → (ℕ → ℕ → ℤ) → Option (List ℤ) → Type 0
+StepAnswer b l P None = Solution b l P → ⊥
+StepAnswer b l P (Some a) = StepProfile b l P (entries_of a) × Tidy b a
 
 -- c is a chart of the book
 abbrev pub ChartOf : BookValue → ChartValue → Type 0

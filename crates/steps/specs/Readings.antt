@@ -17,7 +17,7 @@ pub record EntryRead (D : Table) (first : ℕ) (events : List ℕ) (p q : ℕ) (
 
 -- the array holds those numbers for all stations
 abbrev pub ProfileRead : Table → ℕ → List ℕ → List ℤ → Type 0
-ProfileRead D first events a = (length a ≡ 64) × ((p q : ℕ) → p < 8 → q < 8 → EntryRead D first events p q (entries_of a p q))
+ProfileRead D first events a = (p q : ℕ) → p < 8 → q < 8 → EntryRead D first events p q (entries_of a p q)
 
 -- what closing the table A of n places and reading it answers
 abbrev pub ClosedRead : ℕ → Table → ℕ → List ℕ → Option (List ℤ) → Type 0

@@ -1,6 +1,6 @@
 // The tables of a chart alone and of a step, filled, closed and read.
 ghost use Rattle.std.specs.Prelude.{◌≡◌, ◌+◌, ◌<◌, ◌≤◌, length};
-ghost use Rattle.bookformat.specs.Rules.{GoodBook, GoodLink, chart as chartNumbered};
+ghost use Rattle.bookformat.specs.Rules.{GoodBook, GoodLink, chart as chart_numbered};
 ghost use Rattle.bookformat.specs.Values.{chart_value, book_value};
 ghost use Rattle.closure.specs.Closings.{Sized};
 ghost use Rattle.fullchart.specs.Finds.{IsFull};
@@ -8,7 +8,7 @@ ghost use Rattle.paths.specs.Charts.{event_count};
 ghost use Rattle.paths.specs.Datings.{KeepsChart};
 ghost use Rattle.paths.specs.Steps.{enters};
 ghost use Rattle.profile.specs.Ranges.{InRange};
-ghost use Rattle.steps.specs.Answers.{ChartOf, ChartEntries, StepEntries};
+ghost use Rattle.steps.specs.Answers.{ChartOf, ChartAnswer, StepAnswer};
 ghost use Rattle.steps.specs.Fillings.{Usable, Adds};
 ghost use Rattle.steps.specs.Parts.{entries_of};
 
@@ -22,7 +22,7 @@ use fullchart::FullChart;
 // The chart with a number.
 pub fn chart_of(book: &Book, number: u8) -> &Chart
     requires { number < length (book_value book.now).charts }
-    ensures { chart_value result.now ≡ chartNumbered (book_value book.now) number }
+    ensures { chart_value result.now ≡ chart_numbered (book_value book.now) number }
 {
     &book.charts.as_slice()[usize::from(number)]
 }
@@ -48,7 +48,7 @@ fn add_chart(
     add_drifts(table, places, first, book, full);
 }
 
-// The entries of the profile of a chart alone.
+// The profile of a chart alone.
 fn chart_profile(
     table: &mut [Ticks],
     places: usize,
@@ -61,7 +61,7 @@ fn chart_profile(
     requires listed { ChartOf (book_value book.now) (chart_value chart.now) }
     requires full { IsFull (book_value book.now) (chart_value chart.now) full.now }
     requires inside { places ≡ event_count (book_value book.now) (chart_value chart.now) }
-    ensures { ChartEntries (book_value book.now) (chart_value chart.now) result }
+    ensures { ChartAnswer (book_value book.now) (chart_value chart.now) result }
 {
     clear(table, places);
     add_chart(table, places, 0, book, chart, full);
@@ -73,7 +73,7 @@ pub fn chart_profile_in(storage: &mut [Ticks], book: &Book, chart: &Chart) -> Op
     requires room { length storage.old ≡ 2916 }
     requires good { GoodBook (book_value book.now) }
     requires listed { ChartOf (book_value book.now) (chart_value chart.now) }
-    ensures { ChartEntries (book_value book.now) (chart_value chart.now) result }
+    ensures { ChartAnswer (book_value book.now) (chart_value chart.now) result }
 {
     let full = FullChart::of(book, chart);
     let places = full.count();
@@ -81,7 +81,7 @@ pub fn chart_profile_in(storage: &mut [Ticks], book: &Book, chart: &Chart) -> Op
     chart_profile(&mut storage[0..size], places, book, chart, &full)
 }
 
-// The entries of the profile after a link into a chart. The stations' last events before the link stand at the
+// The profile after a link into a chart. The stations' last events before the link stand at the
 // first places, the events of the chart after them.
 fn entered_profile(
     table: &mut [Ticks],
@@ -99,7 +99,7 @@ fn entered_profile(
     requires entered { chart_value chart.now ≡ enters (book_value book.now) link.now }
     requires full { IsFull (book_value book.now) (chart_value chart.now) full.now }
     requires inside { places ≡ book.now.stations + event_count (book_value book.now) (chart_value chart.now) }
-    ensures { StepEntries (book_value book.now) link.now (entries_of from.now) result }
+    ensures { StepAnswer (book_value book.now) link.now (entries_of from.now) result }
 {
     let stations = usize::from(book.stations);
     let events = full.stations.as_slice();
@@ -121,7 +121,7 @@ pub fn entered_profile_in(
     requires good { GoodBook (book_value book.now) }
     requires range { InRange from.now }
     requires linked { GoodLink (book_value book.now) link.now }
-    ensures { StepEntries (book_value book.now) link.now (entries_of from.now) result }
+    ensures { StepAnswer (book_value book.now) link.now (entries_of from.now) result }
 {
     let chart = chart_of(book, link.to);
     let full = FullChart::of(book, chart);

@@ -1,9 +1,9 @@
 //! Tests of steps. They stand in a crate of their own, since a crate with tests is proved twice.
+#![tactic(auto)]
 
 #[cfg(test)]
 mod tests {
     use chartbook::read_book;
-    use profile::Profile;
     use std::test::Fail;
     use steps::{first_profile, step_profile};
 
@@ -22,9 +22,9 @@ mod tests {
     ];
 
     // The entries of stations 0 and 1: 0 minus 1, and 1 minus 0.
-    fn between(profile: Option<Profile>) -> Option<(i16, i16)> {
-        let Profile { entries } = profile?;
-        Some((entries[1], entries[8]))
+    fn between(profile: Option<[i16; 64]>) -> Option<(i16, i16)> {
+        let a = profile?;
+        Some((a[1], a[8]))
     }
 
     #[test]

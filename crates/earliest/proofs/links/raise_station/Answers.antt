@@ -10,6 +10,6 @@ returns-in-Some-Some c =
     let entered = c.args.entered.now in
     let p = c.args.station in
     station_met c.args.interval p (held left.full.stations) left.first (held entered.full.stations) entered.first c.in-Some-Some.e c.in-Some-Some.f
-    (found (λ (l : List ℕ) (o : Option ℕ). LastOn l p o) c.as-slice.ensures c.in-Some-Some.is-0 c.last-on-last.ensures)
-    (found (λ (l : List ℕ) (o : Option ℕ). FirstOn l p o) c.as-slice-2.ensures c.in-Some-Some.is-1 c.first-on-first.ensures)
-    c.raise-interval.ensures
+    (found (λ (l : List ℕ) (o : Option ℕ). LastOn l p o) c.as_slice.ensures c.in-Some-Some.is-0 c.last_on-last.ensures)
+    (found (λ (l : List ℕ) (o : Option ℕ). FirstOn l p o) c.as_slice-2.ensures c.in-Some-Some.is-1 c.first_on-first.ensures)
+    c.raise_interval.ensures

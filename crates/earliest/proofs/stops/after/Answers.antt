@@ -8,8 +8,8 @@ end-requires c = end_fits (book_value c.args.book.now) c.args.links.now c.args.p
 
 pub returns : goal.returns
 returns c = record {
-  number = c.chart-number-number.ensures.is;
-  exists = c.chart-number-number.ensures.exists;
-  full = c.full-chart.ensures;
+  number = c.chart_number-number.ensures.is;
+  exists = c.chart_number-number.ensures.exists;
+  full = c.full_chart.ensures;
   first = c.end.ensures ∙ next_first (book_value c.args.book.now) c.args.links.now c.args.position c.args.stop.now c.requires.at;
 }

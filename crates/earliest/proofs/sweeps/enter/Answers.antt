@@ -4,8 +4,8 @@ use Rattle.earliest.specs.Demands.{Placed}
 use Rattle.earliest.proofs.Swept.{left_placed, entered_placed, link_exists, entering_met}
 use Rattle.earliest.proofs.sweeps.enter.Goals as goal
 
-pub raise-link-changed-requires : goal.raise-link-changed-requires
-raise-link-changed-requires c = record {
+pub raise_link-changed-requires : goal.raise_link-changed-requires
+raise_link-changed-requires c = record {
   good = c.requires.good;
   exists = link_exists (book_value c.args.book.now) c.args.links.now c.args.position c.args.left.now c.args.entered.now (length c.args.dates.now) c.requires.crossing c.requires.path c.from.result c.from.ensures;
   left = left_placed (book_value c.args.book.now) c.args.links.now c.args.position c.args.left.now c.args.entered.now (length c.args.dates.now) c.requires.crossing;
@@ -15,8 +15,8 @@ raise-link-changed-requires c = record {
 pub settle-changed-requires : goal.settle-changed-requires
 settle-changed-requires c = record {
   good = c.requires.good;
-  placed = subst (Placed (book_value c.args.book.now) c.args.entered.now) (sym c.raise-link-changed.ensures.long) (entered_placed (book_value c.args.book.now) c.args.links.now c.args.position c.args.left.now c.args.entered.now (length c.args.dates.now) c.requires.crossing);
+  placed = subst (Placed (book_value c.args.book.now) c.args.entered.now) (sym c.raise_link-changed.ensures.long) (entered_placed (book_value c.args.book.now) c.args.links.now c.args.position c.args.left.now c.args.entered.now (length c.args.dates.now) c.requires.crossing);
 }
 
 pub returns : goal.returns
-returns c = entering_met (book_value c.args.book.now) c.args.links.now c.args.position c.args.left.now c.args.entered.now (length c.args.dates.now) c.requires.crossing c.from.result c.from.ensures c.raise-link-changed.ensures c.settle-changed.ensures
+returns c = entering_met (book_value c.args.book.now) c.args.links.now c.args.position c.args.left.now c.args.entered.now (length c.args.dates.now) c.requires.crossing c.from.result c.from.ensures c.raise_link-changed.ensures c.settle-changed.ensures

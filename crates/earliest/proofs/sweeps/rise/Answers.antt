@@ -6,19 +6,19 @@ use Rattle.earliest.proofs.sweeps.rise.Goals as goal
 
 pub loop-last-smaller : goal.loop-last-smaller
 loop-last-smaller c =
-    falls (length c.args.dates.now) (search rules) c.sweep-forward.ensures.raises c.sweep-back.ensures c.loop-last.invariant.1 c.loop-last.auto.dates
+    falls (length c.args.dates.now) (search rules) c.sweep_forward.ensures.raises c.sweep_back.ensures c.loop-last.invariant.1 c.loop-last.auto.dates
 
 pub loop-last-preserved : goal.loop-last-preserved
 loop-last-preserved c = (
-  least_kept c.sweep-forward.ensures.raises c.sweep-back.ensures c.loop-last.invariant.0,
-  c.sweep-back.ensures.fits (c.sweep-forward.ensures.raises.fits c.loop-last.invariant.1),
+  least_kept c.sweep_forward.ensures.raises c.sweep_back.ensures c.loop-last.invariant.0,
+  c.sweep_back.ensures.fits (c.sweep_forward.ensures.raises.fits c.loop-last.invariant.1),
   omega (arith, c.min-window.ensures, c.requires.few),
 )
 
-pub returns-then-is-past : goal.returns-then-is-past
-returns-then-is-past c datable =
+pub returns-then-is_past : goal.returns-then-is_past
+returns-then-is_past c datable =
     let b = book_value c.args.book.now in
-    let r = c.sweep-forward.ensures.raises in
-    let (k, inside, past) = c.is-past.ensures.0 (search rules) in
-    let dated = not_past b c.requires.good c.args.links.now datable c.sweep-forward.new.dates (omega (arith, c.requires.long, c.loop-last.auto.dates, r.long)) (λ z d. r.under z d (c.loop-last.invariant.0 z d)) k inside in
+    let r = c.sweep_forward.ensures.raises in
+    let (k, inside, past) = c.is_past.ensures.0 (search rules) in
+    let dated = not_past b c.requires.good c.args.links.now datable c.sweep_forward.new.dates (omega (arith, c.requires.long, c.loop-last.auto.dates, r.long)) (λ z d. r.under z d (c.loop-last.invariant.0 z d)) k inside in
     absurd (omega (arith, c.latest-latest.ensures))

@@ -10,4 +10,4 @@ loop-position-preserved c =
     let p = c.loop-position.position in
     let e : p - 1 + 1 - 1 ≡ p - 1 = omega arith in
     let inside : p - 1 < length c.args.links.now = omega arith in
-    (subst (λ j. At b c.args.links.now j c.before-left.result) e c.before-left.ensures, back_turn b c.args.links.now (p - 1) inside c.loop-position.invariant.1 c.turn-back-changed.ensures)
+    (subst (λ j. At b c.args.links.now j c.before-left.result) e c.before-left.ensures, back_turn b c.args.links.now (p - 1) inside c.loop-position.invariant.1 c.turn_back-changed.ensures)

@@ -4,8 +4,8 @@ use Rattle.bookformat.specs.Values.{held, chart_value}
 use Rattle.steps.proofs.Charted.{chart_read}
 use Rattle.steps.proofs.fills.chart_of.Goals as goal
 
-pub bounds-as-slice-from : goal.bounds-as-slice-from
-bounds-as-slice-from c = omega (arith, ap length c.as-slice.ensures, length-map (held c.args.book.now.charts) chart_value)
+pub bounds-as_slice-from : goal.bounds-as_slice-from
+bounds-as_slice-from c = omega (arith, ap length c.as_slice.ensures, length-map (held c.args.book.now.charts) chart_value)
 
 pub returns : goal.returns
-returns c = chart_read c.args.book.now c.args.number c.as-slice.result.now c.index-as-slice-from.result c.from.result c.requires c.as-slice.ensures c.from.ensures c.index-as-slice-from.is
+returns c = chart_read c.args.book.now c.args.number c.as_slice.result.now c.index-as_slice-from.result c.from.result c.requires c.as_slice.ensures c.from.ensures c.index-as_slice-from.is

@@ -7,8 +7,8 @@ use Rattle.steps.specs.Parts.{ConstraintKept}
 use Rattle.steps.proofs.Filled.{adds_none, adds_more}
 use Rattle.steps.proofs.parts.add_constraints.Goals as goal
 
-pub add-interval-requires : goal.add-interval-requires
-add-interval-requires c = let e = c.requires.each c.loop-c.c-index c.loop-c-test.true in record { usable = c.loop-c.invariant.usable; inside = (omega (arith, e.first_inside, c.from.ensures), omega (arith, e.second_inside, c.from-in-loop-c.ensures)); proper = e.proper }
+pub add_interval-requires : goal.add_interval-requires
+add_interval-requires c = let e = c.requires.each c.loop-c.c-index c.loop-c-test.true in record { usable = c.loop-c.invariant.usable; inside = (omega (arith, e.first_inside, c.from.ensures), omega (arith, e.second_inside, c.from-in-loop-c.ensures)); proper = e.proper }
 
 pub loop-c-init : goal.loop-c-init
 loop-c-init c = adds_none c.args.places c.args.table.now _ c.requires.usable
@@ -16,8 +16,8 @@ loop-c-init c = adds_none c.args.places c.args.table.now _ c.requires.usable
 pub loop-c-preserved : goal.loop-c-preserved
 loop-c-preserved c =
     let constraint : Constraint = get_or c.args.constraints.now c.loop-c.c-index no_constraint in
-    adds_more c.args.places c.args.table.now c.loop-c.table c.add-interval.new.table c.loop-c.c-index (ConstraintKept c.args.constraints.now c.args.first) c.loop-c.invariant
-    (subst₂ (λ x y. Adds c.args.places c.loop-c.table c.add-interval.new.table (λ z. Within constraint.interval (z (c.args.first + x)) (z (c.args.first + y)))) c.from.ensures c.from-in-loop-c.ensures c.add-interval.ensures)
+    adds_more c.args.places c.args.table.now c.loop-c.table c.add_interval.new.table c.loop-c.c-index (ConstraintKept c.args.constraints.now c.args.first) c.loop-c.invariant
+    (subst₂ (λ x y. Adds c.args.places c.loop-c.table c.add_interval.new.table (λ z. Within constraint.interval (z (c.args.first + x)) (z (c.args.first + y)))) c.from.ensures c.from-in-loop-c.ensures c.add_interval.ensures)
 
 pub returns : goal.returns
 returns c =

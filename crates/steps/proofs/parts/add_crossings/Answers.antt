@@ -12,5 +12,5 @@ pub loop-p-preserved : goal.loop-p-preserved
 loop-p-preserved c =
     let is = c.args.intervals.now in
     let evs = c.args.events.now in
-    crossings_more c.args.places c.args.table.now c.loop-p.table c.add-crossing.new.table is evs c.args.stations c.loop-p.p c.loop-p.invariant
-    (subst (λ q. Adds c.args.places c.loop-p.table c.add-crossing.new.table (CrossingKept (get_or is q unbounded) evs c.args.stations c.loop-p.p)) c.from.ensures c.add-crossing.ensures)
+    crossings_more c.args.places c.args.table.now c.loop-p.table c.add_crossing.new.table is evs c.args.stations c.loop-p.p c.loop-p.invariant
+    (subst (λ q. Adds c.args.places c.loop-p.table c.add_crossing.new.table (CrossingKept (get_or is q unbounded) evs c.args.stations c.loop-p.p)) c.from.ensures c.add_crossing.ensures)

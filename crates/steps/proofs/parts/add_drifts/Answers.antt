@@ -15,9 +15,9 @@ loop-p-preserved c =
     let w = c.args.full.now.working in
     let n = c.count-count.result in
     let at = c.args.first in
-    let one = drift_entered c.args.places c.loop-p.table c.add-drift.new.table b w at c.pair-e.result.0 c.pair-e.result.1 c.add-drift.ensures in
-    adds_more c.args.places c.args.table.now c.loop-p.table c.add-drift.new.table c.loop-p.p (λ k. DriftKept b w at (k / n) (k % n)) c.loop-p.invariant
-    (subst₂ (λ e f. Adds c.args.places c.loop-p.table c.add-drift.new.table (DriftKept b w at e f)) c.pair-e.ensures.is.0 c.pair-e.ensures.is.1 one)
+    let one = drift_entered c.args.places c.loop-p.table c.add_drift.new.table b w at c.pair-e.result.0 c.pair-e.result.1 c.add_drift.ensures in
+    adds_more c.args.places c.args.table.now c.loop-p.table c.add_drift.new.table c.loop-p.p (λ k. DriftKept b w at (k / n) (k % n)) c.loop-p.invariant
+    (subst₂ (λ e f. Adds c.args.places c.loop-p.table c.add_drift.new.table (DriftKept b w at e f)) c.pair-e.ensures.is.0 c.pair-e.ensures.is.1 one)
 
 pub returns : goal.returns
 returns c =

@@ -9,8 +9,8 @@ pub loop-k-preserved : goal.loop-k-preserved
 loop-k-preserved c =
     let P = entries_of c.args.profile.now in
     let n = c.args.stations in
-    adds_more c.args.places c.args.table.now c.loop-k.table c.add-profile-entry.new.table c.loop-k.k (λ k z. difference (z (k / n)) (z (k % n)) ≤ℤ P (k / n) (k % n)) c.loop-k.invariant
-    (subst₂ (λ p q. Adds c.args.places c.loop-k.table c.add-profile-entry.new.table (λ z. difference (z p) (z q) ≤ℤ P p q)) c.pair-p.ensures.is.0 c.pair-p.ensures.is.1 c.add-profile-entry.ensures.adds)
+    adds_more c.args.places c.args.table.now c.loop-k.table c.add_profile_entry.new.table c.loop-k.k (λ k z. difference (z (k / n)) (z (k % n)) ≤ℤ P (k / n) (k % n)) c.loop-k.invariant
+    (subst₂ (λ p q. Adds c.args.places c.loop-k.table c.add_profile_entry.new.table (λ z. difference (z p) (z q) ≤ℤ P p q)) c.pair-p.ensures.is.0 c.pair-p.ensures.is.1 c.add_profile_entry.ensures.adds)
 
 pub returns : goal.returns
 returns c =

@@ -4,12 +4,12 @@ use Rattle.steps.proofs.profiles.profile_entry.Goals as goal
 
 pub unwrap-requires : goal.unwrap-requires
 unwrap-requires c =
-    is_number (table_of c.args.places c.args.table.now) c.args.first c.args.events.now c.args.p c.args.q c.in-Some.e c.in-Some.f c.ticks-at.result c.requires.readable c.in-Some.ensures.0 c.in-Some.ensures.1 c.ticks-at.ensures
+    is_number (table_of c.args.places c.args.table.now) c.args.first c.args.events.now c.args.p c.args.q c.in-Some.e c.in-Some.f c.ticks_at.result c.requires.readable c.in-Some.ensures.0 c.in-Some.ensures.1 c.ticks_at.ensures
 
-pub overflow-cast-result : goal.overflow-cast-result
-overflow-cast-result c =
-    is_small (table_of c.args.places c.args.table.now) c.args.first c.args.events.now c.args.p c.args.q c.in-Some.e c.in-Some.f c.ticks-at.result c.requires.readable c.in-Some.ensures.0 c.in-Some.ensures.1 c.ticks-at.ensures c.unwrap.result c.unwrap.ensures (record { sfits = c.unwrap.type-inv })
+pub overflow_cast-result : goal.overflow_cast-result
+overflow_cast-result c =
+    is_small (table_of c.args.places c.args.table.now) c.args.first c.args.events.now c.args.p c.args.q c.in-Some.e c.in-Some.f c.ticks_at.result c.requires.readable c.in-Some.ensures.0 c.in-Some.ensures.1 c.ticks_at.ensures c.unwrap.result c.unwrap.ensures (record { sfits = c.unwrap.type_inv })
 
 pub returns : goal.returns
 returns c =
-    entry_read (table_of c.args.places c.args.table.now) c.args.first c.args.events.now c.args.p c.args.q c.in-Some.e c.in-Some.f c.ticks-at.result c.requires.readable c.in-Some.ensures.0 c.in-Some.ensures.1 c.ticks-at.ensures c.unwrap.result c.unwrap.ensures (record { sfits = c.unwrap.type-inv })
+    entry_read (table_of c.args.places c.args.table.now) c.args.first c.args.events.now c.args.p c.args.q c.in-Some.e c.in-Some.f c.ticks_at.result c.requires.readable c.in-Some.ensures.0 c.in-Some.ensures.1 c.ticks_at.ensures c.unwrap.result c.unwrap.ensures (record { sfits = c.unwrap.type_inv })

@@ -4,7 +4,7 @@ use Rattle.std.proofs.lemmas.Slice.{overwrites}
 use Rattle.bookformat.specs.Values.{book_value}
 use Rattle.earliest.proofs.Placing.{end_is, end_fits}
 use Rattle.earliest.proofs.Flat.{earliest_is}
-use Rattle.earliest.proofs.earliest_dates.Goals as goal
+use Rattle.earliest.proofs.earliest_dates_if_datable.Goals as goal
 
 pub end-count-requires : goal.end-count-requires
 end-count-requires c = end_fits (book_value c.args.book.now) c.args.links.now (length c.args.links.now) c.finish-last.result c.finish-last.ensures c.requires.good c.requires.few
