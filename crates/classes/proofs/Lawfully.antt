@@ -1,30 +1,29 @@
 -- The classes of a good book are a lawful system.
-use Rattle.std.proofs.Common.{◌≡◌, ℕ, suc, ◌+◌, ◌*◌, ◌/◌, ◌%◌, ◌<◌, ◌≤◌, eqb, ◌⊎◌, List, [], ◌∷◌, ◌++◌, map, length, get_or, ℤ, pos, sym, refl, ap, ◌∙◌, subst, inl, inr, arith}
+use Rattle.std.proofs.Common.{◌≡◌, ℕ, ◌+◌, ◌*◌, ◌/◌, ◌%◌, ◌<◌, ◌≤◌, ◌⊎◌, List, [], ◌∷◌, ◌++◌, map, length, get_or, ℤ, pos, sym, refl, ap, ◌∙◌, subst, inl, inr, arith}
 use native.Mathlib.Decide.{dec_lt}
 use Rattle.std.specs.List.{range_with_len}
 use Rattle.std.proofs.lemmas.List.FromFn.{length-map-range_with_len, get_or-map-range_with_len}
 use Rattle.std.proofs.lemmas.List.{ext_get_or}
 use Rattle.std.proofs.lemmas.Int.{ints}
 use Rattle.std.proofs.lemmas.Bool.{eq-eqb}
-use Rattle.std.proofs.lemmas.Nat.{div-mul-add, mod-mul-add}
 use Rattle.bookformat.specs.Values.{BookValue}
 use Rattle.bookformat.specs.Rules.{GoodBook}
 use Rattle.paths.specs.Paths.{link, last_chart, last_number, Path}
 use Rattle.paths.specs.Datings.{Datable}
-use Rattle.paths.specs.Profiles.{InClass, WithinFar}
+use Rattle.paths.specs.Profiles.{InClass}
 use Rattle.paths.specs.Steps.{Leads, enters, Solution}
 use Rattle.paths.proofs.Profiled.{largest_unique, largest_within, largest_like}
 use Rattle.paths.proofs.Existing.{profile_exists}
 use Rattle.paths.proofs.Compose.{beginning_datable, longer_path, leads_iff}
 use Rattle.profile.specs.Ranges.{SmallEntry, InRange}
-use Rattle.profile.proofs.Same.{profile_same}
 use Rattle.register.specs.declared.row.Class.{Class}
 use Rattle.search.specs.Systems.{Lawful}
 use Rattle.classes.specs.Classes.{entry, Tidy, classes, ClassesLaw}
+use Rattle.classes.specs.Ranged.{ranged, RangedLaw}
 
 module _ (b : BookValue) (good : GoodBook b) where
   same_class : (s t : Class) → Tidy b s → Tidy b t → s.chart ≡ t.chart → ((p q : ℕ) → p < b.stations → q < b.stations → entry s p q ≡ entry t p q) → s ≡ t
-  same_class s t ts tt' ec agree = λ i. record { chart = ec i; profile = profile_same s.profile t.profile same i }
+  same_class s t ts tt' ec agree = λ i. record { chart = ec i; profile = record { entries = same i } }
     where
       at : (p q : ℕ) → p < 8 → q < 8 → entry s p q ≡ entry t p q
       at p q hp hq = elim (dec_lt p b.stations) [
@@ -64,62 +63,61 @@ module _ (b : BookValue) (good : GoodBook b) where
       go (yes c) (no d) o = refl
       go (no c) d o = refl
 
-  -- the entries of a path's profile
-  abbrev Far : (ℕ → ℕ → ℤ) → Type 0
-  Far P = (p q : ℕ) → p < b.stations → q < b.stations → WithinFar b (P p q)
+  abbrev class_of : ℕ → (ℕ → ℕ → ℤ) → Class
+  class_of c P = record { chart = c; profile = record { entries = map (λ (i : ℕ). known P (i / 8) (i % 8)) (range_with_len 0 64) } }
 
-  known_small : (P : ℕ → ℕ → ℤ) → Far P → (p q : ℕ) → SmallEntry (known P p q)
-  unfolding known
-  known_small P far p q = go (dec_lt p b.stations) (dec_lt q b.stations)
-    where
-      go : (c : Dec (p < b.stations)) (d : Dec (q < b.stations)) → SmallEntry (elim c [ yes h ↦ elim d [ yes g ↦ P p q | no g ↦ pos 0 ] | no h ↦ pos 0 ])
-      go (yes c) (yes d) = (omega (arith, ints, (far p q c d).most, good.far_most), omega (arith, ints, (far p q c d).least, good.far_most))
-      go (yes c) (no d) = (record { le = tt }, record { le = tt })
-      go (no c) d = (record { le = tt }, record { le = tt })
-
-  abbrev listed_entries : (ℕ → ℕ → ℤ) → List ℤ
-  listed_entries P = map (λ (i : ℕ). known P (i / 8) (i % 8)) (range_with_len 0 64)
-
-  range_of : (P : ℕ → ℕ → ℤ) → Far P → InRange (listed_entries P)
-  range_of P far k h =
-      subst SmallEntry (sym (get_or-map-range_with_len (λ (i : ℕ). known P (i / 8) (i % 8)) 0 64 k k (pos 0) h (omega arith))) (known_small P far (k / 8) (k % 8))
-
-  abbrev class_of : ℕ → (P : ℕ → ℕ → ℤ) → Far P → Class
-  class_of c P far = record { chart = c; profile = record { entries = listed_entries P; range = range_of P far } }
-
-  entry_of : (c : ℕ) (P : ℕ → ℕ → ℤ) (far : Far P) (p q : ℕ) → p < 8 → q < 8 → entry (class_of c P far) p q ≡ known P p q
-  entry_of c P far p q hp hq =
+  entry_of : (c : ℕ) (P : ℕ → ℕ → ℤ) (p q : ℕ) → p < 8 → q < 8 → entry (class_of c P) p q ≡ known P p q
+  entry_of c P p q hp hq =
       let i : ℕ = 8 * p + q in
       let u : (8 * p + q) / 8 ≡ p = omega arith in
       let v : (8 * p + q) % 8 ≡ q = omega arith in
       get_or-map-range_with_len (λ (i : ℕ). known P (i / 8) (i % 8)) 0 64 (8 * p + q) (8 * p + q) (pos 0) (omega arith) (omega arith)
       ∙ ap (λ (x : ℕ). known P x ((8 * p + q) % 8)) u ∙ ap (known P p) v
 
-  tidy_of : (c : ℕ) (P : ℕ → ℕ → ℤ) (far : Far P) → Tidy b (class_of c P far)
-  tidy_of c P far = record {
+  tidy_of : (c : ℕ) (P : ℕ → ℕ → ℤ) → Tidy b (class_of c P)
+  tidy_of c P = record {
     sized = length-map-range_with_len (λ (i : ℕ). known P (i / 8) (i % 8)) 0 64;
-    rest = λ p q hp hq out. entry_of c P far p q hp hq ∙ known_out P p q out;
+    rest = λ p q hp hq out. entry_of c P p q hp hq ∙ known_out P p q out;
   }
 
   -- each datable path has a class
   pub in_some_class : (path : List ℕ) → Path b path → Datable b path → (s : Class) × (classes b).In path s
   in_some_class path is_path datable =
       let e = profile_exists b good path datable in
-      let far : Far e.0 = largest_within b (last_chart b path) (Datable b path) (λ x. x.0 (length path)) good (λ x. x.1.charts (length path) (omega arith)) e.0 e.1 in
-      let s : Class = class_of (last_number b path) e.0 far in
-      let at : (p q : ℕ) → p < b.stations → q < b.stations → e.0 p q ≡ entry (class_of (last_number b path) e.0 far) p q = λ p q hp hq.
-      sym (entry_of (last_number b path) e.0 far p q (omega (arith, good.stations_most)) (omega (arith, good.stations_most)) ∙ known_in e.0 p q hp hq) in (
+      let s : Class = class_of (last_number b path) e.0 in
+      let at : (p q : ℕ) → p < b.stations → q < b.stations → e.0 p q ≡ entry (class_of (last_number b path) e.0) p q = λ p q hp hq.
+      sym (entry_of (last_number b path) e.0 p q (omega (arith, good.stations_most)) (omega (arith, good.stations_most)) ∙ known_in e.0 p q hp hq) in (
         s,
         (
-          tidy_of (last_number b path) e.0 far,
+          tidy_of (last_number b path) e.0,
           record {
             is_path = is_path;
             datable = datable;
             ends = refl;
-            profile = largest_like b (last_chart b path) (Datable b path) (λ x. x.0 (length path)) e.0 (entry (class_of (last_number b path) e.0 far)) at e.1;
+            profile = largest_like b (last_chart b path) (Datable b path) (λ x. x.0 (length path)) e.0 (entry (class_of (last_number b path) e.0)) at e.1;
           },
         ),
       )
+
+  -- the entries of a datable path's class are within far, or 0
+  pub in_range : (path : List ℕ) (s : Class) → (classes b).In path s → InRange s.profile.entries
+  in_range path s (tidy, i) k h =
+      let e : 8 * (k / 8) + k % 8 ≡ k = omega arith in
+      subst (λ (x : ℕ). SmallEntry (get_or s.profile.entries x (pos 0))) e (small (k / 8) (k % 8) (omega arith) (omega arith))
+    where
+      far : (p q : ℕ) → p < b.stations → q < b.stations → SmallEntry (entry s p q)
+      far p q hp hq =
+          let w = largest_within b (last_chart b path) (Datable b path) (λ x. x.0 (length path)) good (λ x. x.1.charts (length path) (omega arith)) (entry s) i.profile p q hp hq in
+          (omega (arith, ints, w.most, good.far_most), omega (arith, ints, w.least, good.far_most))
+
+      zeroed : (p q : ℕ) → p < 8 → q < 8 → (b.stations ≤ p) ⊎ (b.stations ≤ q) → SmallEntry (entry s p q)
+      zeroed p q hp hq out = subst SmallEntry (sym (tidy.rest p q hp hq out)) (record { le = tt }, record { le = tt })
+
+      small : (p q : ℕ) → p < 8 → q < 8 → SmallEntry (entry s p q)
+      small p q hp hq = elim (dec_lt p b.stations) [
+        | yes h ↦ elim (dec_lt q b.stations) [ yes g ↦ far p q h g | no g ↦ zeroed p q hp hq (inr (omega arith)) ]
+        | no h ↦ zeroed p q hp hq (inl (omega arith))
+      ]
 
   lawful : Lawful (classes b)
   lawful = record {
@@ -140,5 +138,18 @@ module _ (b : BookValue) (good : GoodBook b) where
           let (s, j) = in_some_class path ((longer_path b path l).0 i.is_path).0 (beginning_datable b path l i.datable) in
           (s, j, (tidy, (leads_iff b good path s.chart (entry s) j.1 l t.chart (entry t)).1 i))
 
+  ranged_lawful : Lawful (ranged b)
+  ranged_lawful = record {
+    one_start = lawful.one_start;
+    one_way = λ s t u l g h. lawful.one_way s t u l g.1 h.1;
+    numbered = λ s t l g. lawful.numbered s t l g.1;
+    begun = λ s t l g. lawful.begun s t l g.1;
+    onward = λ path s t l i g. lawful.onward path s t l i g.1;
+    back = λ path t l i. let (s, j, g) = lawful.back path t l i in (s, j, (in_range path s j, g));
+  }
+
 pub classes_law : ClassesLaw
 classes_law = lawful
+
+pub ranged_law : RangedLaw
+ranged_law = ranged_lawful

@@ -1,5 +1,5 @@
 -- The classes of a book's datable paths as a system to walk through.
-use Rattle.std.specs.Prelude.{◌≡◌, ℕ, ◌+◌, ◌*◌, ◌<◌, ◌≤◌, ◌⊎◌, List, length, ℤ, pos, ◌==◌, slice_index_or}
+use Rattle.std.specs.Prelude.{◌≡◌, ℕ, ◌+◌, ◌*◌, ◌<◌, ◌≤◌, ◌⊎◌, length, ℤ, pos, ◌==◌, slice_index_or}
 use Rattle.bookformat.specs.Values.{BookValue}
 use Rattle.bookformat.specs.Rules.{chart, GoodBook}
 use Rattle.paths.specs.Paths.{link}

@@ -1,5 +1,5 @@
 -- The same calls with the same space have the same answers.
-use Rattle.std.proofs.Common.{◌≡◌, ℕ, ◌+◌, List, [], ◌∷◌, ◌++◌, length, drop, Some, None, Ok, Err, Option, Result, sym, refl, ap, ◌∙◌, subst, arith, length-append}
+use Rattle.std.proofs.Common.{◌≡◌, ℕ, List, [], ◌∷◌, ◌++◌, length, drop, Some, None, Ok, Err, Option, Result, sym, refl, ap, ◌∙◌, subst, arith, length-append}
 use lib.Seq.{drop-append_seam}
 use Rattle.std.proofs.lemmas.List.{same_from_push, append_cancel_right, length_push}
 use Rattle.bookformat.specs.declared.fault.Fault.{Fault}
@@ -8,7 +8,7 @@ use Rattle.bookformat.specs.Values.{BookValue}
 use Rattle.paths.specs.Listing.{events_of}
 use Rattle.search.specs.Walks.{Stage}
 use Rattle.search.proofs.Unique as unique
-use Rattle.classes.specs.Classes.{classes}
+use Rattle.classes.specs.Ranged.{ranged}
 use Rattle.history.specs.declared.phase.State.{State}
 use Rattle.history.specs.declared.phase.Phase.{Phase}
 use Rattle.history.specs.declared.phase.Phase.TheVariants.{Idle, Open, Runs, Empty, Spent}
@@ -20,7 +20,7 @@ use Rattle.history.specs.declared.calls.Answer.{Answer}
 use Rattle.history.specs.declared.calls.Answer.TheVariants as answer
 use Rattle.history.specs.States.{code}
 use Rattle.history.specs.Views.{View, state_of, stage_of}
-use Rattle.history.specs.Meanings.{Begun, BeginFault, no_room, bad_book, BeginMeans, Advanced, AdvanceMeans, ChartsIn, VerdictMeans, LegIn, LegMeans, DatesShown, DatesIn, RestKept, DatesMeans}
+use Rattle.history.specs.Meanings.{Begun, BeginFault, no_room, bad_book, BeginMeans, AdvanceMeans, ChartsIn, VerdictMeans, LegIn, LegMeans, DatesShown, DatesIn, RestKept, DatesMeans}
 use Rattle.history.specs.Histories.{Did, History, space, Answers, Does, Reaches, calls_of, lent_of, taken, budgets, steps}
 use Rattle.history.specs.Laws.{LegOn, OnlyLaw}
 use Rattle.paths.proofs.Listed.{same_dates}
@@ -55,8 +55,8 @@ advance_walk : (capacity budget : ℕ) (bytes : List ℕ) (n m : ℕ) (v w w' : 
 advance_walk capacity budget bytes n m v w w' o (Ok a) (Ok a') b b' =
     let (tried, s) = advances capacity budget bytes n m a.0 a.1 v w b o in
     let (tried', s') = advances capacity budget bytes n m a'.0 a'.1 v w' b' o in
-    let e = unique.advance_one (classes v.book) (lawful_classes capacity bytes n m v o) capacity budget a.0 a'.0 (stage_of v o.tried) (stage_of (moved v w) tried) (stage_of (moved v w') tried') s s' in
-    let f : w.phase ≡ w'.phase = phase_one w.phase w'.phase (ap (λ (x : Stage (classes v.book)). x.phase) e.1) in
+    let e = unique.advance_one (ranged v.book) (lawful_classes capacity bytes n m v o) capacity budget a.0 a'.0 (stage_of v o.tried) (stage_of (moved v w) tried) (stage_of (moved v w') tried') s s' in
+    let f : w.phase ≡ w'.phase = phase_one w.phase w'.phase (ap (λ (x : Stage (ranged v.book)). x.phase) e.1) in
     let g : a.1 ≡ a'.1 = b.state_is ∙ ap (λ (x : Phase). code (state_of x)) f ∙ sym b'.state_is in
     λ i. Ok (e.0 i, g i)
 advance_walk capacity budget bytes n m v w w' o (Ok a) (Err f) b b' = absurd (b.begun b'.1)

@@ -7,7 +7,7 @@ use Rattle.register.specs.declared.row.Row.{Row}
 use Rattle.register.specs.Meaning.{no_row, row_at}
 use Rattle.search.specs.Rows.{Origin as WalkOrigin, Row as WalkRow, at}
 use Rattle.search.specs.Walks as walk
-use Rattle.classes.specs.Classes.{classes}
+use Rattle.classes.specs.Ranged.{ranged}
 use Rattle.history.specs.declared.phase.Phase.{Phase}
 use Rattle.history.specs.declared.phase.Phase.TheVariants.{Idle, Open, Runs, Empty, Spent}
 use Rattle.history.specs.States.{code}
@@ -45,7 +45,7 @@ unfolding origin_back
 origin_again None = refl
 origin_again (Some o) = refl
 
-abbrev row_back : (b : BookValue) → WalkRow (classes b) → Row
+abbrev row_back : (b : BookValue) → WalkRow (ranged b) → Row
 row_back b r = record { class = r.class; origin = origin_back r.origin }
 
 rows_again : (b : BookValue) (rows : List Row) → map (row_back b) (rows_of b rows) ≡ rows

@@ -11,7 +11,8 @@ use Rattle.search.specs.Rows.{class_at}
 use Rattle.search.specs.Walks.{IsOpen}
 use Rattle.search.specs.Laws.{RunsAt, Different}
 use Rattle.search.proofs.Told.{rows_law, pairs_law, empty_law, runs_law, spent_law}
-use Rattle.classes.specs.Classes.{entry, classes}
+use Rattle.classes.specs.Classes.{entry}
+use Rattle.classes.specs.Ranged.{ranged}
 use Rattle.history.specs.declared.phase.Phase.{Phase}
 use Rattle.history.specs.declared.phase.Phase.TheVariants.{Runs, Empty, Spent}
 use Rattle.history.specs.declared.calls.Verdict.{Verdict}
@@ -38,27 +39,27 @@ pub record Showing (v : View) (path : List ℕ) : Type 0 where
   pub dates : (lent : List ℕ) (r : Result ℕ Fault) (left : List ℕ) → DatesMeans v lent r left → DatesShown v.book path lent r left
 
 -- a datable final path is in a final class
-in_final : (b : BookValue) (path : List ℕ) → Runnable b path → (s : Class) → (classes b).In path s → (classes b).final s ≡ true
+in_final : (b : BookValue) (path : List ℕ) → Runnable b path → (s : Class) → (ranged b).In path s → (ranged b).final s ≡ true
 in_final b path r s i = subst (λ (x : ℕ). (chart b x).final ≡ true) i.1.ends r.final
 
 module _ (capacity : ℕ) (bytes : List ℕ) (made spent : ℕ) (v : View) (o : OnWalk capacity bytes made spent v) where
   pub told_empty : v.phase ≡ Empty → (path : List ℕ) → Runnable v.book path → ⊥
   told_empty e path r =
       let i = in_some_class v.book o.is_taken.good path r.is_path r.datable in
-      let f : (classes v.book).final i.0 ≡ false = empty_law (classes v.book) (lawful_classes capacity bytes made spent v o) capacity made (stage_of v o.tried) o.walked (ap phase_of e) path i.0 i.1 in
+      let f : (ranged v.book).final i.0 ≡ false = empty_law (ranged v.book) (lawful_classes capacity bytes made spent v o) capacity made (stage_of v o.tried) o.walked (ap phase_of e) path i.0 i.1 in
       let z : true ≡ false = sym (in_final v.book path r i.0 i.1) ∙ f in
       let n : ◌≡◌ {A = ℕ} 0 1 = cc in
       omega arith
 
   pub told_open : IsOpen (phase_of v.phase) → spent < capacity * length v.book.links
-  told_open p = subst (λ (x : ℕ). x < capacity * length v.book.links) (o.used p) ((pairs_law (classes v.book) (lawful_classes capacity bytes made spent v o) capacity made (stage_of v o.tried) o.walked).unfinished p)
+  told_open p = subst (λ (x : ℕ). x < capacity * length v.book.links) (o.used p) ((pairs_law (ranged v.book) (lawful_classes capacity bytes made spent v o) capacity made (stage_of v o.tried) o.walked).unfinished p)
 
   pub told_spent : v.phase ≡ Spent → Crowd capacity v.book
   told_spent e =
-      let c = (spent_law (classes v.book) (lawful_classes capacity bytes made spent v o)).crowd capacity made (stage_of v o.tried) o.walked (ap phase_of e) in
+      let c = (spent_law (ranged v.book) (lawful_classes capacity bytes made spent v o)).crowd capacity made (stage_of v o.tried) o.walked (ap phase_of e) in
       go c.0 c.1 c.2
     where
-      go : (paths : List (List ℕ)) → Different (classes v.book) paths → length paths ≡ suc capacity → Crowd capacity v.book
+      go : (paths : List (List ℕ)) → Different (ranged v.book) paths → length paths ≡ suc capacity → Crowd capacity v.book
       go paths d many = record {
         paths = paths;
         many = many;
@@ -72,16 +73,16 @@ module _ (capacity : ℕ) (bytes : List ℕ) (made spent : ℕ) (v : View) (o : 
 
   -- the chain of a row ends at the row's chart
   trail_ends : (k : ℕ) (path : List ℕ) → TrailTo v.book v.rows k path → last_number v.book path ≡ (class_at (rows_of v.book v.rows) k).chart
-  trail_ends k path t = ((rows_law (classes v.book) (lawful_classes capacity bytes made spent v o) capacity made (stage_of v o.tried) o.walked).in_class k path t).1.ends
+  trail_ends k path t = ((rows_law (ranged v.book) (lawful_classes capacity bytes made spent v o) capacity made (stage_of v o.tried) o.walked).in_class k path t).1.ends
 
   leg_on : (path : List ℕ) (position : ℕ) (r : Result Leg Fault) → LegShown v.book v.rows path position r → LegOn v.book path position r
   leg_on path position (Ok leg) s = (s.on_path, s.chart ∙ sym (trail_ends s.row (take position path) s.trail) ∙ part_ends v.book path position s.on_path, s.link)
   leg_on path position (Err f) s = s
 
   pub told_runs : (k : ℕ) → v.phase ≡ Runs k → (path : List ℕ) × Showing v path
-  told_runs k e = go (runs_law (classes v.book) (lawful_classes capacity bytes made spent v o) capacity made k (stage_of v o.tried) o.walked (ap phase_of e))
+  told_runs k e = go (runs_law (ranged v.book) (lawful_classes capacity bytes made spent v o) capacity made k (stage_of v o.tried) o.walked (ap phase_of e))
     where
-      go : RunsAt (classes v.book) (rows_of v.book v.rows) k → (path : List ℕ) × Showing v path
+      go : RunsAt (ranged v.book) (rows_of v.book v.rows) k → (path : List ℕ) × Showing v path
       go r =
           let i = r.in_class.1 in
           let known : Runnable v.book r.path = record { is_path = i.is_path; final = subst (λ (x : ℕ). (chart v.book x).final ≡ true) (sym i.ends) r.final; datable = i.datable } in (

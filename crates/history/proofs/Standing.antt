@@ -9,10 +9,9 @@ use Rattle.search.specs.Walks.{Stage, IsOpen, Advances, Walked, none}
 use Rattle.search.specs.Places.{Moves, stays, moves}
 use Rattle.search.proofs.Unique.{walk_one, advance_walked, advance_used}
 use Rattle.search.proofs.Told.{phase_law, moves_steps}
-use Rattle.classes.specs.Classes.{classes}
-use Rattle.classes.proofs.Lawfully.{classes_law}
+use Rattle.classes.specs.Ranged.{ranged}
+use Rattle.classes.proofs.Lawfully.{ranged_law}
 use Rattle.history.specs.declared.phase.State.{State}
-use Rattle.history.specs.declared.phase.Phase.{Phase}
 use Rattle.history.specs.declared.phase.Phase.TheVariants.{Idle}
 use Rattle.history.specs.declared.calls.Call.{Call}
 use Rattle.history.specs.declared.calls.Call.TheVariants.{Verdict as AskVerdict, Begin, Advance, Leg, Dates}
@@ -27,7 +26,7 @@ use Rattle.history.proofs.Seen.{phase_one, rows_one, same_view, kept}
 pub record OnWalk (capacity : ℕ) (bytes : List ℕ) (made spent : ℕ) (v : View) : Type 0 where
   pub is_taken : Taken bytes v.book
   pub tried : List (ℕ × ℕ)
-  pub walked : Walked (classes v.book) capacity made (stage_of v tried)
+  pub walked : Walked (ranged v.book) capacity made (stage_of v tried)
   pub used : IsOpen (phase_of v.phase) → made ≡ spent
 
 -- by the bytes last taken, the steps made since then and the budgets spent
@@ -36,11 +35,11 @@ Stands capacity None made spent v = v.phase ≡ Idle
 Stands capacity (Some bytes) made spent v = OnWalk capacity bytes made spent v
 
 module _ (capacity : ℕ) (bytes : List ℕ) (made spent : ℕ) (v : View) (o : OnWalk capacity bytes made spent v) where
-  pub lawful_classes : Lawful (classes v.book)
-  lawful_classes = classes_law v.book o.is_taken.good
+  pub lawful_classes : Lawful (ranged v.book)
+  lawful_classes = ranged_law v.book o.is_taken.good
 
   pub not_idle : v.phase ≡ Idle → ⊥
-  not_idle e = (phase_law (classes v.book) lawful_classes capacity made (stage_of v o.tried) o.walked).begun (ap phase_of e)
+  not_idle e = (phase_law (ranged v.book) lawful_classes capacity made (stage_of v o.tried) o.walked).begun (ap phase_of e)
 
   -- so many steps through the book of the bytes come to one view
   pub one_view : (m : ℕ) (w : View) → OnWalk capacity bytes made m w → v ≡ w
@@ -49,10 +48,10 @@ module _ (capacity : ℕ) (bytes : List ℕ) (made spent : ℕ) (v : View) (o : 
       let u : View = record { book = v.book; phase = w.phase; rows = w.rows } in
       let f : w ≡ u = same_view w u e refl refl in
       let p : OnWalk capacity bytes made m u = subst (OnWalk capacity bytes made m) f q in
-      let g : stage_of v o.tried ≡ stage_of u p.tried = walk_one (classes v.book) lawful_classes capacity made (stage_of v o.tried) (stage_of u p.tried) o.walked p.walked in
+      let g : stage_of v o.tried ≡ stage_of u p.tried = walk_one (ranged v.book) lawful_classes capacity made (stage_of v o.tried) (stage_of u p.tried) o.walked p.walked in
       same_view v w (sym e)
-      (phase_one v.phase w.phase (ap (λ (x : Stage (classes v.book)). x.phase) g))
-      (rows_one v.book v.rows w.rows (ap (λ (x : Stage (classes v.book)). x.rows) g))
+      (phase_one v.phase w.phase (ap (λ (x : Stage (ranged v.book)). x.phase) g))
+      (rows_one v.book v.rows w.rows (ap (λ (x : Stage (ranged v.book)). x.rows) g))
 
 -- steps that end open began open
 moves_open : (y : System) (capacity : ℕ) {from : List (rows.Row y)} {start : walk.Phase} {n : ℕ} {after : List (rows.Row y)} {f : walk.Phase} → Moves y capacity from start n after f → IsOpen f → IsOpen start
@@ -86,9 +85,9 @@ stand_begun capacity t n m bytes v w (Err f) b st = stand_same capacity t n (n +
 abbrev pub moved : View → View → View
 moved v w = record { book = v.book; phase = w.phase; rows = w.rows }
 
-pub advances : (capacity budget : ℕ) (bytes : List ℕ) (n m k s : ℕ) (v w : View) → Advanced capacity budget v k s w → (o : OnWalk capacity bytes n m v) → (tried : List (ℕ × ℕ)) × Advances (classes v.book) capacity budget (stage_of v o.tried) k (stage_of (moved v w) tried)
+pub advances : (capacity budget : ℕ) (bytes : List ℕ) (n m k s : ℕ) (v w : View) → Advanced capacity budget v k s w → (o : OnWalk capacity bytes n m v) → (tried : List (ℕ × ℕ)) × Advances (ranged v.book) capacity budget (stage_of v o.tried) k (stage_of (moved v w) tried)
 advances capacity budget bytes n m k s v w a o =
-    let i = moves_steps (classes v.book) (lawful_classes capacity bytes n m v o) capacity n (stage_of v o.tried) o.walked a.moves in
+    let i = moves_steps (ranged v.book) (lawful_classes capacity bytes n m v o) capacity n (stage_of v o.tried) o.walked a.moves in
     (i.0, record { made = i.1; within = a.within; stopped = a.stopped })
 
 walk_on : (capacity budget : ℕ) (bytes : List ℕ) (n m k s : ℕ) (v w : View) → Advanced capacity budget v k s w → OnWalk capacity bytes n m v → OnWalk capacity bytes (n + k) (m + budget) w
@@ -97,8 +96,8 @@ walk_on capacity budget bytes n m k s v w a o =
     let on : OnWalk capacity bytes (n + k) (m + budget) (moved v w) = record {
       is_taken = o.is_taken;
       tried = tried;
-      walked = advance_walked (classes v.book) capacity n budget k (stage_of v o.tried) (stage_of (moved v w) tried) o.walked go;
-      used = λ p. omega (arith, o.used (moves_open (classes v.book) capacity a.moves p), advance_used (classes v.book) capacity budget k (stage_of v o.tried) (stage_of (moved v w) tried) go p);
+      walked = advance_walked (ranged v.book) capacity n budget k (stage_of v o.tried) (stage_of (moved v w) tried) o.walked go;
+      used = λ p. omega (arith, o.used (moves_open (ranged v.book) capacity a.moves p), advance_used (ranged v.book) capacity budget k (stage_of v o.tried) (stage_of (moved v w) tried) go p);
     } in
     subst (OnWalk capacity bytes (n + k) (m + budget)) (same_view (moved v w) w (sym a.book) refl refl) on
 

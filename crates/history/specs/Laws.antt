@@ -9,7 +9,7 @@ use Rattle.paths.specs.Datings.{Datable}
 use Rattle.paths.specs.Profiles.{SameClass}
 use Rattle.search.specs.Walks as walk
 use Rattle.search.specs.Walks.{Stage, Walked}
-use Rattle.classes.specs.Classes.{classes}
+use Rattle.classes.specs.Ranged.{ranged}
 use Rattle.history.specs.declared.calls.Leg.{Leg}
 use Rattle.history.specs.declared.calls.Call.{Call}
 use Rattle.history.specs.declared.calls.Answer.{Answer}
@@ -45,7 +45,7 @@ pub record Crowd (capacity : ℕ) (b : BookValue) : Type 0 where
   pub apart : (i k : ℕ) → i < k → k < length paths → SameClass b (slice_index_or paths i []) (slice_index_or paths k []) → ⊥
 
 -- the view is what the walk has come to
-pub record Holds (b : BookValue) (z : Stage (classes b)) (v : View) : Type 0 where
+pub record Holds (b : BookValue) (z : Stage (ranged b)) (v : View) : Type 0 where
   pub book : v.book ≡ b
   pub rows : rows_of b v.rows ≡ z.rows
   pub phase : phase_of v.phase ≡ z.phase
@@ -53,7 +53,7 @@ pub record Holds (b : BookValue) (z : Stage (classes b)) (v : View) : Type 0 whe
 -- What the latest answer says, where b is the book last taken
 pub record BookLaw (capacity : ℕ) (d : Did) (h : History) (b : BookValue) : Type 0 where
   -- the state read is the one to which the walk comes with as many rows and steps, and the register's rows are the walk's
-  pub walked : (z : Stage (classes b)) × Walked (classes b) capacity (steps (d ∷ h)) z × ((v : View) → Reaches capacity (d ∷ h) v → Holds b z v) × ((n : ℕ) → Reads d.answer n → n ≡ walk.code z.phase)
+  pub walked : (z : Stage (ranged b)) × Walked (ranged b) capacity (steps (d ∷ h)) z × ((v : View) → Reaches capacity (d ∷ h) v → Holds b z v) × ((n : ℕ) → Reads d.answer n → n ≡ walk.code z.phase)
   -- empty: no final path, of any length, can be dated
   pub empty : Reads d.answer 3 → (path : List ℕ) → Runnable b path → ⊥
   -- runs: the shortest final path that can be dated is shown

@@ -12,7 +12,7 @@ use Rattle.register.specs.declared.row.Row.{Row}
 use Rattle.search.specs.Rows.{Trail, class_at}
 use Rattle.search.specs.Walks.{Begins, IsOpen}
 use Rattle.search.specs.Places.{Moves}
-use Rattle.classes.specs.Classes.{classes}
+use Rattle.classes.specs.Ranged.{ranged}
 use Rattle.history.specs.declared.phase.State.{State}
 use Rattle.history.specs.declared.phase.Phase.{Phase}
 use Rattle.history.specs.declared.phase.Phase.TheVariants.{Idle, Open, Runs, Empty, Spent}
@@ -27,7 +27,7 @@ use Rattle.history.specs.Views.{View, Same, state_of, phase_of, rows_of, stage_o
 pub record Begun (capacity : ℕ) (bytes : List ℕ) (s : State) (w : View) : Type 0 where
   pub room : 0 < capacity
   pub taken : Taken bytes w.book
-  pub begins : Begins (classes w.book) (stage_of w [])
+  pub begins : Begins (ranged w.book) (stage_of w [])
   pub state : s ≡ state_of w.phase
 
 pub data BeginFault (capacity : ℕ) (bytes : List ℕ) (f : Fault) : Type 0 where
@@ -44,7 +44,7 @@ BeginMeans capacity bytes v (Err f) w = BeginFault capacity bytes f × Same v w
 pub record Advanced (capacity budget : ℕ) (v : View) (steps state : ℕ) (w : View) : Type 0 where
   pub begun : v.phase ≡ Idle → ⊥
   pub book : w.book ≡ v.book
-  pub moves : Moves (classes v.book) capacity (rows_of v.book v.rows) (phase_of v.phase) steps (rows_of v.book w.rows) (phase_of w.phase)
+  pub moves : Moves (ranged v.book) capacity (rows_of v.book v.rows) (phase_of v.phase) steps (rows_of v.book w.rows) (phase_of w.phase)
   pub within : steps ≤ budget
   pub stopped : steps < budget → IsOpen (phase_of w.phase) → ⊥
   pub state_is : state ≡ code (state_of w.phase)
@@ -55,7 +55,7 @@ AdvanceMeans capacity budget v (Err f) w = (f ≡ fault.Idle) × (v.phase ≡ Id
 
 -- the links of the path that leads to row k
 abbrev pub TrailTo : BookValue → List Row → ℕ → List ℕ → Type 0
-TrailTo b rows k path = Trail (classes b) (rows_of b rows) k path
+TrailTo b rows k path = Trail (ranged b) (rows_of b rows) k path
 
 -- verdict
 

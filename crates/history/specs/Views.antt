@@ -6,7 +6,7 @@ use Rattle.register.specs.declared.row.Row.{Row}
 use Rattle.search.specs.Rows.{Origin as WalkOrigin, Row as WalkRow}
 use Rattle.search.specs.Walks as walk
 use Rattle.search.specs.Walks.{Stage}
-use Rattle.classes.specs.Classes.{classes}
+use Rattle.classes.specs.Ranged.{ranged}
 use Rattle.history.specs.declared.phase.State.{State}
 use Rattle.history.specs.declared.phase.State.TheVariants as st
 use Rattle.history.specs.declared.phase.Phase.{Phase}
@@ -32,7 +32,7 @@ pub record Same (v w : View) : Type 0 where
   pub phase : w.phase ≡ v.phase
   pub rows : w.rows ≡ v.rows
 
--- The same as a walk through the classes of the book's datable paths
+-- The same as a walk through the classes of the book's datable paths. (Steps are from entries within range, which every such class has.)
 
 abbrev pub phase_of : Phase → walk.Phase
 phase_of Idle = walk.Idle
@@ -45,12 +45,12 @@ abbrev pub origin_of : Option Origin → Option WalkOrigin
 origin_of None = None
 origin_of (Some o) = Some (record { row = o.row; link = o.link })
 
-abbrev pub row_of : (b : BookValue) → Row → WalkRow (classes b)
+abbrev pub row_of : (b : BookValue) → Row → WalkRow (ranged b)
 row_of b r = record { class = r.class; origin = origin_of r.origin }
 
-abbrev pub rows_of : (b : BookValue) → List Row → List (WalkRow (classes b))
+abbrev pub rows_of : (b : BookValue) → List Row → List (WalkRow (ranged b))
 rows_of b rows = map (row_of b) rows
 
 -- what the walk has come to, with these pairs tried
-abbrev pub stage_of : (v : View) → List (ℕ × ℕ) → Stage (classes v.book)
+abbrev pub stage_of : (v : View) → List (ℕ × ℕ) → Stage (ranged v.book)
 stage_of v tried = record { rows = rows_of v.book v.rows; tried = tried; phase = phase_of v.phase }

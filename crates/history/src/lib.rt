@@ -3,6 +3,8 @@
 //! Nothing here computes but the number of a state: the calls themselves stand in the crate above, whose contracts
 //! these definitions are.
 
+#![tactic(auto)]
+
 ghost use Rattle.history.specs.Laws.{HistoryLaw, OnlyLaw};
 
 mod calls;
