@@ -1,5 +1,5 @@
 -- Up the chain of rows by which a path came.
-use Rattle.std.proofs.Common.{◌≡◌, ℕ, zero, suc, ◌+◌, ◌-◌, ◌<◌, ◌≤◌, List, [], ◌∷◌, length, get_or, take, drop, set, Some, None, Option, sym, refl, ap, ◌∙◌, subst, arith, length-take-le, take_all, drop-cons, get_or-take, take-take}
+use Rattle.std.proofs.Common.{◌≡◌, ℕ, suc, ◌+◌, ◌-◌, ◌<◌, ◌≤◌, List, ◌∷◌, length, get_or, take, drop, set, Some, None, Option, sym, refl, ap, ◌∙◌, subst, arith, length-take-le, take_all, drop-cons, get_or-take, take-take}
 use native.Mathlib.Decide.{dec_lt}
 use Rattle.std.proofs.lemmas.List.{drop_all, drop-set}
 use Rattle.bookformat.specs.Values.{BookValue}
@@ -9,11 +9,11 @@ use Rattle.register.specs.Meaning.{row_at}
 use Rattle.search.specs.Rows.{at}
 use Rattle.search.specs.Rows as walk
 use Rattle.search.proofs.Told.{trail_law}
-use Rattle.classes.specs.Classes.{classes}
+use Rattle.classes.specs.Ranged.{ranged}
 use Rattle.history.specs.Views.{origin_of, rows_of}
 use Rattle.history.specs.Meanings.{TrailTo}
 use Rattle.history.proofs.Seen.{length_rows_of, at_rows_of}
-use Rattle.examination.specs.Chains.{CountsTo, ClimbsTo, LinksTo}
+use Rattle.examination.specs.Chains.{ClimbsTo, LinksTo}
 
 origin_read : (o : Option Origin) (p l : ℕ) → origin_of o ≡ Some (record { row = p; link = l }) → (x : Origin) × (o ≡ Some x) × (x.row ≡ p) × (x.link ≡ l)
 origin_read None p l e = let z : ◌≡◌ {A = ℕ} 0 1 = cc in absurd (omega arith)
@@ -25,20 +25,20 @@ module _ (b : BookValue) (rows : List Row) where
   -- a path with a link came from the row that the origin names, by its last link
   pub up : (k n : ℕ) (path : List ℕ) → TrailTo b rows k path → length path ≡ suc n → (x : Origin) × ((row_at rows k).origin ≡ Some x) × (x.link ≡ get_or path n 0) × TrailTo b rows x.row (take n path)
   up k n path t e =
-      let u = (trail_law (classes b)).up (rows_of b rows) k n path t e in
+      let u = (trail_law (ranged b)).up (rows_of b rows) k n path t e in
       let o = origin_read (row_at rows k).origin u.0 (get_or path n 0) (sym (ap (λ r. r.origin) (at_rows_of b rows k)) ∙ u.1) in
       (o.0, o.1, o.3, subst (λ (q : ℕ). TrailTo b rows q (take n path)) (sym o.2) u.3)
 
   -- one without links came from nowhere
   pub top : (k : ℕ) (path : List ℕ) → TrailTo b rows k path → length path ≡ 0 → (row_at rows k).origin ≡ None
-  top k path t e = none (row_at rows k).origin (sym (ap (λ r. r.origin) (at_rows_of b rows k)) ∙ ((trail_law (classes b)).top (rows_of b rows) k path t e).1)
+  top k path t e = none (row_at rows k).origin (sym (ap (λ r. r.origin) (at_rows_of b rows k)) ∙ ((trail_law (ranged b)).top (rows_of b rows) k path t e).1)
     where
       none : (o : Option Origin) → origin_of o ≡ None → o ≡ None
       none None z = refl
       none (Some x) z = let w : ◌≡◌ {A = ℕ} 0 1 = cc in absurd (omega arith)
 
   pub below : (k : ℕ) (path : List ℕ) → TrailTo b rows k path → (k < length rows) × (length path ≤ k)
-  below k path t = let h = (trail_law (classes b)).below (rows_of b rows) k path t in (subst (λ (n : ℕ). k < n) (length_rows_of b rows) h.0, h.1)
+  below k path t = let h = (trail_law (ranged b)).below (rows_of b rows) k path t in (subst (λ (n : ℕ). k < n) (length_rows_of b rows) h.0, h.1)
 
 -- So many levels up from row k
 

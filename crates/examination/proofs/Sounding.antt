@@ -1,5 +1,5 @@
 -- What an examination rests on, read and made.
-use Rattle.std.proofs.Common.{◌≡◌, ℕ, ◌<◌, Bool, true, false, List, [], sym, refl, subst, ⊎_elim}
+use Rattle.std.proofs.Common.{◌≡◌, ℕ, Bool, true, false, List, [], sym, refl, subst, ⊎_elim}
 use mathlib.Core.Logic.{∥∥₁_elim, ∥∥₁_map}
 use native.Mathlib.Bridge.{le_prop}
 use Rattle.bookformat.specs.Values.{BookValue}
@@ -8,7 +8,7 @@ use Rattle.bookformat.proofs.Known.{good_known}
 use Rattle.register.specs.declared.row.Row.{Row}
 use Rattle.search.specs.Rows.{class_at}
 use Rattle.search.specs.Walks as search
-use Rattle.classes.specs.Classes.{classes}
+use Rattle.classes.specs.Ranged.{ranged}
 use Rattle.history.specs.declared.phase.Phase.{Phase}
 use Rattle.history.specs.declared.phase.Phase.TheVariants.{Idle, Open, Runs, Empty, Spent}
 use Rattle.history.specs.Views.{phase_of, rows_of}
@@ -36,7 +36,7 @@ sound_made b (Runs k) good h = ∣ good ∣₁
 sound_made b Empty good h = ∣ good ∣₁
 sound_made b Spent good h = ∣ good ∣₁
 
-settled_next : (b : BookValue) (rows : List Row) (f : search.Phase) (tried : List (ℕ × ℕ)) → search.Settles (classes b) (rows_of b rows) tried f → NextExists b f
+settled_next : (b : BookValue) (rows : List Row) (f : search.Phase) (tried : List (ℕ × ℕ)) → search.Settles (ranged b) (rows_of b rows) tried f → NextExists b f
 settled_next b rows search.Idle tried h = tt
 settled_next b rows (search.Open p l) tried h = h.0.0.1
 settled_next b rows (search.Runs k) tried h = tt
@@ -47,9 +47,9 @@ pub started_next : (b : BookValue) (rows : List Row) (f : Phase) → Started b r
 started_next b rows f h =
     ⊎_elim
     (λ nowhere. subst (NextExists b) (sym nowhere.phase) tt)
-    (λ at. by ((classes b).final (class_at (rows_of b rows) 0)) refl at.1.phase)
+    (λ at. by ((ranged b).final (class_at (rows_of b rows) 0)) refl at.1.phase)
     h
   where
-    by : (v : Bool) → (classes b).final (class_at (rows_of b rows) 0) ≡ v → search.Enters (classes b) (rows_of b rows) [] 0 (phase_of f) → NextExists b (phase_of f)
+    by : (v : Bool) → (ranged b).final (class_at (rows_of b rows) 0) ≡ v → search.Enters (ranged b) (rows_of b rows) [] 0 (phase_of f) → NextExists b (phase_of f)
     by true e g = subst (NextExists b) (sym (g.0 e)) tt
     by false e g = settled_next b rows (phase_of f) [] (g.1 e)

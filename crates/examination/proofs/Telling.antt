@@ -1,18 +1,14 @@
 -- What verdict, leg and dates tell of the rows.
-use Rattle.std.proofs.Common.{◌≡◌, ℕ, zero, suc, ◌-◌, ◌<◌, ◌≤◌, List, length, get_or, take, Some, None, Ok, Err, Option, Result, sym, refl, ap, ◌∙◌, subst, arith, length-take-le, get_or-take}
+use Rattle.std.proofs.Common.{◌≡◌, ℕ, zero, suc, ◌-◌, ◌<◌, ◌≤◌, List, length, take, Some, Ok, Err, Result, sym, refl, ap, ◌∙◌, subst, arith, length-take-le, get_or-take}
 use Rattle.bookformat.specs.declared.fault.Fault.{Fault}
 use Rattle.bookformat.specs.declared.fault.Fault.TheVariants as fault
 use Rattle.bookformat.specs.Values.{BookValue}
-use Rattle.register.specs.declared.row.Origin.{Origin}
-use Rattle.register.specs.declared.row.Class.{Class}
 use Rattle.register.specs.declared.row.Row.{Row}
 use Rattle.register.specs.Meaning.{row_at}
-use Rattle.search.specs.Rows.{class_at}
 use Rattle.history.specs.declared.phase.Phase.{Phase}
 use Rattle.history.specs.declared.phase.Phase.TheVariants.{Idle, Open, Runs, Empty, Spent}
 use Rattle.history.specs.declared.calls.Leg.{Leg}
-use Rattle.history.specs.Views.{rows_of}
-use Rattle.history.specs.Meanings.{TrailTo, ChartsIn, link_to, LegIn, LegOf, DatesIn}
+use Rattle.history.specs.Meanings.{TrailTo, ChartsIn, link_to, LegIn, DatesIn}
 use Rattle.history.proofs.Seen.{at_rows_of}
 use Rattle.examination.specs.Chains.{CountsTo, ClimbsTo, LinksTo, LegAt, link_of, GoalIn, DatedLinks}
 use Rattle.examination.proofs.Climbing.{up, top}

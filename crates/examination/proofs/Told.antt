@@ -5,7 +5,7 @@ use Rattle.history.specs.declared.phase.Phase.TheVariants.{Idle}
 use Rattle.history.specs.declared.calls.Call.{Call}
 use Rattle.history.specs.declared.calls.Answer.{Answer}
 use Rattle.history.specs.Views.{View}
-use Rattle.history.specs.Histories.{Did, History, space, spaces, Answers, Does, Reaches, fresh, next, calls_of, answers_of, lent_of, left_of}
+use Rattle.history.specs.Histories.{Did, History, space, spaces, Answers, Reaches, fresh, next, calls_of, answers_of, lent_of, left_of}
 use Rattle.history.specs.Laws.{Conducted}
 use Rattle.history.proofs.Lawful.{history_law}
 use Rattle.history.proofs.Only.{only_law}

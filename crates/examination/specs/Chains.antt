@@ -1,5 +1,5 @@
 -- What is read along the chain of rows that a path came by.
-use Rattle.std.specs.Prelude.{◌≡◌, ℕ, suc, ◌-◌, ◌≤◌, List, length, take, drop, Some, None, Ok, Err, Option, Result}
+use Rattle.std.specs.Prelude.{◌≡◌, ℕ, suc, ◌-◌, ◌≤◌, List, length, take, Some, None, Ok, Err, Option, Result}
 use Rattle.bookformat.specs.declared.fault.Fault.{Fault}
 use Rattle.bookformat.specs.declared.fault.Fault.TheVariants as fault
 use Rattle.bookformat.specs.Values.{BookValue}

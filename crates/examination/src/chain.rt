@@ -12,14 +12,14 @@ const MOST_LINKS: usize = 4095;
 
 /// Where the row at a place came from.
 pub fn origin_at<R: Register>(register: &R, place: u16) -> Option<Origin>
-    ensures { result ≡ (row_at (rows register.now) place).origin }
+    ensures { result ≡ (row_at (R.rows register.now) place).origin }
 {
     row_at(register, place).origin
 }
 
 /// How many charts the path to a row has.
 pub fn charts_to<R: Register>(register: &R, place: u16) -> usize
-    ensures { CountsTo (rows register.now) place result }
+    ensures { CountsTo (R.rows register.now) place result }
 {
     let mut at = place;
     for climbed in 0..register.count() {
@@ -33,7 +33,7 @@ pub fn charts_to<R: Register>(register: &R, place: u16) -> usize
 
 /// The row that is so many levels up from a row.
 pub fn climb<R: Register>(register: &R, place: u16, levels: usize) -> u16
-    ensures { ClimbsTo (rows register.now) place levels result }
+    ensures { ClimbsTo (R.rows register.now) place levels result }
 {
     let mut at = place;
     for _climbed in 0..levels {
@@ -46,7 +46,7 @@ pub fn climb<R: Register>(register: &R, place: u16, levels: usize) -> u16
 
 /// The leg at a row: its chart, and the link that led to it.
 pub fn leg_of<R: Register>(register: &R, place: u16) -> Leg
-    ensures { LegAt (rows register.now) place result }
+    ensures { LegAt (R.rows register.now) place result }
 {
     let row = row_at(register, place);
     let link = match row.origin {
@@ -70,7 +70,7 @@ pub struct Route {
 impl Route {
     /// The links of the path to a row.
     pub fn to<R: Register>(register: &R, place: u16) -> Route
-        ensures { LinksTo (rows register.now) place (drop result.start result.links) }
+        ensures { LinksTo (R.rows register.now) place (drop result.start result.links) }
     {
         let mut links = [0; MOST_LINKS];
         let mut start = MOST_LINKS;

@@ -12,7 +12,7 @@ ghost use Rattle.examination.specs.Routes.{RouteIn};
 use crate::chain::{Route, charts_to, climb, leg_of};
 use bookformat::{Book, Bounded, Chart, Constraint, Event, Fault, Interval, Kind, Link};
 use chartbook::read_book;
-use earliest::{earliest_dates, event_count, is_path};
+use earliest::{earliest_dates_if_datable, event_count, is_path};
 use history::{Leg, Phase, State, Verdict};
 use register::Register;
 use walk::{Unwatched, Watch, begin_walk, go_on};
@@ -76,7 +76,7 @@ fn state_of(phase: Phase) -> State
 
 /// How many charts the path found has, or 0.
 fn charts_in<R: Register>(register: &R, phase: Phase) -> usize
-    ensures { CountsIn (rows register.now) phase result }
+    ensures { CountsIn (R.rows register.now) phase result }
 {
     match phase {
         Phase::Runs(row) => charts_to(register, row),
@@ -117,7 +117,7 @@ pub fn date_links(book: &Book, links: &[u8], space: &mut [u32]) -> Result<usize,
     if space.len() < needed {
         return Err(Fault::TooLittleSpace { needed });
     }
-    Ok(earliest_dates(book, links, space))
+    Ok(earliest_dates_if_datable(book, links, space))
 }
 
 impl Examination {
@@ -133,8 +133,8 @@ impl Examination {
 
     /// Takes the book that the bytes say, clears the register, and begins the walk with the first chart.
     pub fn begin<R: Register>(&mut self, register: &mut R, bytes: &[u8]) -> Result<State, Fault>
-        ensures meaning { BeginMeans (capacity register.old) bytes.now (view_of self.old.book self.old.phase (rows register.old)) result (view_of self.new.book self.new.phase (rows register.new)) }
-        ensures capacity { capacity register.new ≡ capacity register.old }
+        ensures meaning { BeginMeans (R.capacity register.old) bytes.now (view_of self.old.book self.old.phase (R.rows register.old)) result (view_of self.new.book self.new.phase (R.rows register.new)) }
+        ensures capacity { R.capacity register.new ≡ R.capacity register.old }
     {
         if register.capacity() == 0 {
             return Err(Fault::NoCapacity);
@@ -151,8 +151,8 @@ impl Examination {
         register: &mut R,
         budget: u16,
     ) -> Result<(u16, u8), Fault>
-        ensures meaning { AdvanceMeans (capacity register.old) budget (view_of self.old.book self.old.phase (rows register.old)) result (view_of self.new.book self.new.phase (rows register.new)) }
-        ensures capacity { capacity register.new ≡ capacity register.old }
+        ensures meaning { AdvanceMeans (R.capacity register.old) budget (view_of self.old.book self.old.phase (R.rows register.old)) result (view_of self.new.book self.new.phase (R.rows register.new)) }
+        ensures capacity { R.capacity register.new ≡ R.capacity register.old }
     {
         self.advance_watched(register, budget, &mut Unwatched)
     }
@@ -164,8 +164,8 @@ impl Examination {
         budget: u16,
         watch: &mut W,
     ) -> Result<(u16, u8), Fault>
-        ensures meaning { AdvanceMeans (capacity register.old) budget (view_of self.old.book self.old.phase (rows register.old)) result (view_of self.new.book self.new.phase (rows register.new)) }
-        ensures capacity { capacity register.new ≡ capacity register.old }
+        ensures meaning { AdvanceMeans (R.capacity register.old) budget (view_of self.old.book self.old.phase (R.rows register.old)) result (view_of self.new.book self.new.phase (R.rows register.new)) }
+        ensures capacity { R.capacity register.new ≡ R.capacity register.old }
     {
         if let Phase::Idle = self.phase {
             return Err(Fault::Idle);
@@ -177,7 +177,7 @@ impl Examination {
 
     /// The state, and for runs how many charts the path has.
     pub fn verdict<R: Register>(&self, register: &R) -> Verdict
-        ensures { VerdictMeans (view_of self.now.book self.now.phase (rows register.now)) result }
+        ensures { VerdictMeans (view_of self.now.book self.now.phase (R.rows register.now)) result }
     {
         Verdict {
             state: state_of(self.phase),
@@ -187,7 +187,7 @@ impl Examination {
 
     /// The chart at a position of the path, and the link that led to it.
     pub fn leg<R: Register>(&self, register: &R, position: usize) -> Result<Leg, Fault>
-        ensures { LegMeans (view_of self.now.book self.now.phase (rows register.now)) position result }
+        ensures { LegMeans (view_of self.now.book self.now.phase (R.rows register.now)) position result }
     {
         let row = goal(self.phase)?;
         let charts = charts_to(register, row);
@@ -207,7 +207,7 @@ impl Examination {
 
     /// The links of the path.
     pub fn route<R: Register>(&self, register: &R) -> Result<Route, Fault>
-        ensures { RouteIn (rows register.now) self.now.phase result }
+        ensures { RouteIn (R.rows register.now) self.now.phase result }
     {
         let row = goal(self.phase)?;
         Ok(Route::to(register, row))
@@ -216,7 +216,7 @@ impl Examination {
     /// Writes the earliest dating of the path to the front of the space, position after position and by event number;
     /// answers how many dates it has.
     pub fn dates<R: Register>(&self, register: &R, space: &mut [u32]) -> Result<usize, Fault>
-        ensures { DatesMeans (view_of self.now.book self.now.phase (rows register.now)) space.old result space.new }
+        ensures { DatesMeans (view_of self.now.book self.now.phase (R.rows register.now)) space.old result space.new }
     {
         let row = goal(self.phase)?;
         let route = Route::to(register, row);

@@ -1,4 +1,5 @@
 //! The examination of a chart book: can any final path of it be dated?
+#![tactic(auto)]
 
 mod chain;
 mod exam;

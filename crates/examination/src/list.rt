@@ -1,6 +1,6 @@
 // Any list of calls on a new examination.
 ghost use Rattle.std.specs.Prelude.{◌≡◌, ◌≤◌, length};
-ghost use Rattle.history.specs.Histories.{space as spaceFor, Answers};
+ghost use Rattle.history.specs.Histories.{space as space_of, Answers};
 ghost use Rattle.examination.specs.Views.{view_of};
 ghost use Rattle.examination.specs.Conduct.{SpacesIs, RoomChecked, Performed, ConductMeans};
 
@@ -11,7 +11,7 @@ use register::Register;
 
 /// How much space for dates a call is lent.
 fn space_for(call: Call) -> usize
-    ensures { result ≡ spaceFor call.entry }
+    ensures { result ≡ space_of call.entry }
 {
     match call {
         Call::Dates(space) => space,
@@ -56,8 +56,8 @@ fn perform<R: Register>(
     call: Call,
     space: &mut [u32],
 ) -> Answer
-    ensures answers { Answers (capacity register.old) (view_of examination.old.book examination.old.phase (rows register.old)) call.entry result space.old space.new (view_of examination.new.book examination.new.phase (rows register.new)) }
-    ensures capacity { capacity register.new ≡ capacity register.old }
+    ensures answers { Answers (R.capacity register.old) (view_of examination.old.book examination.old.phase (R.rows register.old)) call.entry result space.old space.new (view_of examination.new.book examination.new.phase (R.rows register.new)) }
+    ensures capacity { R.capacity register.new ≡ R.capacity register.old }
 {
     match call {
         Call::Verdict => Answer::Told(examination.verdict(register)),
@@ -78,8 +78,8 @@ fn perform_within<R: Register>(
     end: usize,
 ) -> Answer
     requires { (start ≤ end) × (end ≤ length dates.old) }
-    ensures performed { Performed (capacity register.old) (view_of examination.old.book examination.old.phase (rows register.old)) call.entry result start end dates.old dates.new (view_of examination.new.book examination.new.phase (rows register.new)) }
-    ensures capacity { capacity register.new ≡ capacity register.old }
+    ensures performed { Performed (R.capacity register.old) (view_of examination.old.book examination.old.phase (R.rows register.old)) call.entry result start end dates.old dates.new (view_of examination.new.book examination.new.phase (R.rows register.new)) }
+    ensures capacity { R.capacity register.new ≡ R.capacity register.old }
 {
     perform(examination, register, call, &mut dates[start..end])
 }
@@ -95,7 +95,7 @@ pub fn conduct<R: Register>(
     answers: &mut [Answer],
     dates: &mut [u32],
 ) -> Result<Examination, Fault>
-    ensures { ConductMeans (capacity register.old) calls.now answers.old answers.new dates.old dates.new (rows register.old) result (rows register.new) }
+    ensures { ConductMeans (R.capacity register.old) calls.now answers.old answers.new dates.old dates.new (R.rows register.old) result (R.rows register.new) }
 {
     check_room(calls, answers.len(), dates.len())?;
     let mut examination = Examination::new();

@@ -1,6 +1,8 @@
+#![tactic(auto)]
+
 // Examinations in one call each, for C and Rust to call: the benchmark.
 ghost use Rattle.std.specs.Prelude.{◌≡◌, ◌≤◌, length};
-ghost use Rattle.examination_c.specs.Walked.{WalkMeans, packed as packedOf, Told};
+ghost use Rattle.examination_c.specs.Walked.{WalkMeans, packed as packed_as, Told};
 
 use bookformat::Fault;
 use examination::Examination;
@@ -16,7 +18,7 @@ fn walk<R: Register>(
     bytes: &[u8],
     budget: u16,
 ) -> Result<(u16, u8), Fault>
-    ensures { WalkMeans (capacity register.old) bytes.now budget result }
+    ensures { WalkMeans (R.capacity register.old) bytes.now budget result }
 {
     let _ = examination.begin(register, bytes)?;
     examination.advance(register, budget)
@@ -24,7 +26,7 @@ fn walk<R: Register>(
 
 // The number of the state, then 16 bits for the steps. No steps and idle where the book was refused.
 fn packed(walked: Result<(u16, u8), Fault>) -> u32
-    ensures { result ≡ packedOf walked }
+    ensures { result ≡ packed_as walked }
 {
     match walked {
         Ok((steps, state)) => u32::from(state) * 65_536 + u32::from(steps),
@@ -34,7 +36,7 @@ fn packed(walked: Result<(u16, u8), Fault>) -> u32
 
 // A walk in a register that is let go.
 fn walk_in<R: Register + Drop>(mut register: R, bytes: &[u8], budget: u16) -> u32
-    ensures { Told (capacity register) bytes.now budget result }
+    ensures { Told (R.capacity register) bytes.now budget result }
 {
     let mut examination = Examination::new();
     packed(walk(&mut examination, &mut register, bytes, budget))

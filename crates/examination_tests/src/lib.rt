@@ -1,4 +1,5 @@
 //! Tests of the examination. They stand in a crate of their own, since a crate with tests is proved twice.
+#![tactic(auto)]
 
 #[cfg(test)]
 mod tests;

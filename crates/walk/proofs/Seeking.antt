@@ -1,5 +1,5 @@
 -- Looking for the next pair, row after row.
-use Rattle.std.proofs.Common.{◌≡◌, ℕ, ◌+◌, ◌<◌, ◌≤◌, true, eqb, ◌⊎◌, List, length, Some, None, sym, ap, ◌∙◌, inl, inr, ⊎_elim, arith}
+use Rattle.std.proofs.Common.{◌≡◌, ℕ, ◌+◌, ◌<◌, ◌≤◌, List, length, Some, None, sym, ap, ◌∙◌, inl, inr, ⊎_elim, arith}
 use native.Mathlib.Decide.{dec_lt}
 use Rattle.std.proofs.lemmas.Bool.{eq-eqb, eqb-true}
 use Rattle.bookformat.specs.Values.{BookValue}
@@ -9,7 +9,7 @@ use Rattle.register.specs.Meaning.{row_at}
 use Rattle.search.specs.Rows.{class_at, Pair, Before}
 use Rattle.search.specs.Walks.{Open, Empty}
 use Rattle.search.specs.Places.{Found}
-use Rattle.classes.specs.Classes.{classes}
+use Rattle.classes.specs.Ranged.{ranged}
 use Rattle.history.specs.Views.{rows_of}
 use Rattle.history.proofs.Seen.{length_rows_of, at_rows_of}
 use Rattle.walk.specs.Trying.{FirstFrom}
@@ -20,16 +20,16 @@ class_row b rows k = ap (λ r. r.class) (at_rows_of b rows k)
 
 -- no pair from row p and link l on is before row q and link m, where the search goes on
 abbrev pub Sought : BookValue → List Row → ℕ → ℕ → ℕ → ℕ → Type 0
-Sought b rows p l q m = (Before q m p l → ⊥) × ((i j : ℕ) → Pair (classes b) (rows_of b rows) i j → Before i j q m → Before i j p l)
+Sought b rows p l q m = (Before q m p l → ⊥) × ((i j : ℕ) → Pair (ranged b) (rows_of b rows) i j → Before i j q m → Before i j p l)
 
 module _ (b : BookValue) (rows : List Row) where
   abbrev chart_of : ℕ → ℕ
   chart_of q = (row_at rows q).class.chart
 
-  pair_from : (i j : ℕ) → Pair (classes b) (rows_of b rows) i j → (link b j).from ≡ chart_of i
+  pair_from : (i j : ℕ) → Pair (ranged b) (rows_of b rows) i j → (link b j).from ≡ chart_of i
   pair_from i j h = eqb-true _ _ h.2 ∙ ap (λ c. c.chart) (class_row b rows i)
 
-  pub sought_found : (p l q m n : ℕ) → Sought b rows p l q m → q < length rows → FirstFrom b (chart_of q) m (Some n) → Found (classes b) (rows_of b rows) p l (Open q n)
+  pub sought_found : (p l q m n : ℕ) → Sought b rows p l q m → q < length rows → FirstFrom b (chart_of q) m (Some n) → Found (ranged b) (rows_of b rows) p l (Open q n)
   sought_found p l q m n s h f = (
     (omega (arith, length_rows_of b rows), f.1, eq-eqb _ _ (f.2 ∙ ap (λ c. c.chart) (sym (class_row b rows q)))),
     ⊎_elim (λ lt. s.0 (inl lt)) (λ e. s.0 (inr (e.0, let e1 = e.1 in let f0 = f.0 in omega arith))),
@@ -53,5 +53,5 @@ module _ (b : BookValue) (rows : List Row) where
     ]) (λ e. let e1 = e.1 in absurd (omega arith)),
   )
 
-  pub sought_none : (p l q m : ℕ) → Sought b rows p l q m → length rows ≤ q → Found (classes b) (rows_of b rows) p l Empty
+  pub sought_none : (p l q m : ℕ) → Sought b rows p l q m → length rows ≤ q → Found (ranged b) (rows_of b rows) p l Empty
   sought_none p l q m s h = λ i j pair. s.1 i j pair (inl (let in_rows = pair.0 in omega (arith, length_rows_of b rows)))

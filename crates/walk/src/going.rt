@@ -21,8 +21,8 @@ pub fn go_on<R: Register, W: Watch>(
 ) -> (u16, Phase)
     requires good { GoodBook (book_value book.now) }
     requires exists { NextExists (book_value book.now) (phase_of phase) }
-    ensures gone { Gone (book_value book.now) (capacity register.old) (rows register.old) phase budget result.0 (rows register.new) result.1 }
-    ensures capacity { capacity register.new ≡ capacity register.old }
+    ensures gone { Gone (book_value book.now) (R.capacity register.old) (R.rows register.old) phase budget result.0 (R.rows register.new) result.1 }
+    ensures capacity { R.capacity register.new ≡ R.capacity register.old }
 {
     let mut at = phase;
     for steps in 0..budget {

@@ -1,4 +1,5 @@
 //! The walk through the classes of a book's datable paths: how it begins, and how it goes on.
+#![tactic(auto)]
 
 mod going;
 mod outcome;

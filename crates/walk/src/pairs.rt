@@ -1,20 +1,21 @@
 // The pairs of a row and a link from its chart, in their order.
 ghost use Rattle.std.specs.Prelude.{◌≡◌, ◌≤◌, length};
-ghost use Rattle.bookformat.specs.Rules.{chart as chartNumbered};
+ghost use Rattle.bookformat.specs.Rules.{chart as chart_numbered};
 ghost use Rattle.bookformat.specs.Values.{book_value};
 ghost use Rattle.register.specs.Meaning.{row_at};
 ghost use Rattle.search.specs.Places.{Found};
-ghost use Rattle.classes.specs.Classes.{classes};
+ghost use Rattle.classes.specs.Ranged.{ranged};
 ghost use Rattle.history.specs.Views.{phase_of, rows_of};
-ghost use Rattle.walk.specs.Trying.{FirstFrom};
+ghost use Rattle.walk.specs.Trying.{Alike, FirstFrom};
 
 use bookformat::Book;
 use history::Phase;
 use register::{Class, Profile, Register, Row};
 
-/// The row at a place, or a blank one where there is none.
+/// The row at a place, or one of chart 0 with entries of 0 where there is none.
 pub fn row_at<R: Register>(register: &R, place: u16) -> Row
-    ensures { result ≡ row_at (rows register.now) place }
+    ensures alike { Alike result.class (row_at (R.rows register.now) place).class }
+    ensures origin { result.origin ≡ (row_at (R.rows register.now) place).origin }
 {
     let mut row = Row {
         class: Class {
@@ -29,7 +30,7 @@ pub fn row_at<R: Register>(register: &R, place: u16) -> Row
 
 /// Is the chart with a number marked final?
 pub fn is_final(book: &Book, number: u8) -> bool
-    ensures { result ≡ (chartNumbered (book_value book.now) number).final }
+    ensures { result ≡ (chart_numbered (book_value book.now) number).final }
 {
     let charts = book.charts.as_slice();
     let at = usize::from(number);
@@ -53,7 +54,7 @@ fn link_from(book: &Book, chart: u8, start: usize) -> Option<u8>
 /// Open at the first pair from a row and a link on, or empty if there is none.
 pub fn next_pair<R: Register>(book: &Book, register: &R, place: u16, link: usize) -> Phase
     requires { length (book_value book.now).links ≤ 128 }
-    ensures { Found (classes (book_value book.now)) (rows_of (book_value book.now) (rows register.now)) place link (phase_of result) }
+    ensures { Found (ranged (book_value book.now)) (rows_of (book_value book.now) (R.rows register.now)) place link (phase_of result) }
 {
     let mut start = link;
     for at in place..register.count() {

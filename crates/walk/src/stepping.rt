@@ -1,10 +1,11 @@
 // How the walk begins, and one step of it.
 ghost use Rattle.std.specs.Prelude.{◌≡◌, ◌+◌, ◌<◌, ◌≤◌, length, Decides};
-ghost use Rattle.bookformat.specs.Rules.{chart as chartNumbered, GoodBook};
+ghost use Rattle.bookformat.specs.Rules.{chart as chart_numbered, GoodBook};
 ghost use Rattle.bookformat.specs.Values.{book_value};
+ghost use Rattle.profile.specs.Ranges.{InRange};
 ghost use Rattle.register.specs.Meaning.{row_at};
 ghost use Rattle.search.specs.Places.{Found};
-ghost use Rattle.classes.specs.Classes.{classes};
+ghost use Rattle.classes.specs.Ranged.{ranged};
 ghost use Rattle.history.specs.Views.{phase_of, rows_of};
 ghost use Rattle.walk.specs.Trying.{outcome_by, LedTo, Starts, Tried, Follows, Stepped, Started};
 
@@ -13,8 +14,19 @@ use crate::pairs::{is_final, next_pair, row_at};
 use crate::watch::Watch;
 use bookformat::{Book, Link};
 use history::Phase;
-use register::{Class, Entered, Origin, Register, Row};
+use register::{Class, Entered, Origin, Profile, Register, Row};
 use steps::{first_profile, step_profile};
+
+/// The class of a chart and the entries of a profile.
+fn class_with(chart: u8, entries: [i16; 64]) -> Class
+    ensures is { result ≡ record { chart = chart; profile = record { entries = entries } } }
+    ensures sized { length entries ≡ 64 }
+{
+    Class {
+        chart,
+        profile: Profile { entries },
+    }
+}
 
 /// The class of the first chart alone, if it can be dated.
 fn first_class(book: &Book) -> Option<Class>
@@ -22,10 +34,7 @@ fn first_class(book: &Book) -> Option<Class>
     ensures { Starts (book_value book.now) result }
 {
     match first_profile(book) {
-        Some(profile) => Some(Class {
-            chart: book.first,
-            profile,
-        }),
+        Some(entries) => Some(class_with(book.first, entries)),
         None => None,
     }
 }
@@ -35,6 +44,15 @@ fn begins_at(link: &Link, chart: u8) -> bool
     ensures { Decides result (link.now.from ≡ chart) }
 {
     link.from == chart
+}
+
+/// Is each entry so near to 0 that a step can be made from it?
+fn is_in_range(entries: &[i16; 64]) -> bool
+    ensures { Decides result (InRange entries.now) }
+{
+    entries
+        .iter()
+        .all(|entry| -10_000 <= *entry && *entry <= 10_000)
 }
 
 /// The class to which a link leads from a class, if a path goes on so.
@@ -48,11 +66,12 @@ fn lead(book: &Book, from: &Class, link: u8) -> Option<Class>
     if !begins_at(&taken, from.chart) {
         return None;
     }
-    match step_profile(book, &from.profile, number) {
-        Some(profile) => Some(Class {
-            chart: taken.to,
-            profile,
-        }),
+    // (Nothing else is known of the entries of a row that the walk did not enter.)
+    if !is_in_range(&from.profile.entries) {
+        return None;
+    }
+    match step_profile(book, &from.profile.entries, number) {
+        Some(entries) => Some(class_with(taken.to, entries)),
         None => None,
     }
 }
@@ -72,8 +91,8 @@ fn outcome_of(entered: Entered) -> Outcome
 fn try_pair<R: Register>(book: &Book, register: &mut R, place: u16, link: u8) -> Outcome
     requires good { GoodBook (book_value book.now) }
     requires exists { link < length (book_value book.now).links }
-    ensures tried { Tried (book_value book.now) (capacity register.old) (rows register.old) place link result (rows register.new) }
-    ensures capacity { capacity register.new ≡ capacity register.old }
+    ensures tried { Tried (book_value book.now) (R.capacity register.old) (R.rows register.old) place link result (R.rows register.new) }
+    ensures capacity { R.capacity register.new ≡ R.capacity register.old }
 {
     let from = row_at(register, place);
     let Some(class) = lead(book, &from.class, link) else {
@@ -88,7 +107,7 @@ fn try_pair<R: Register>(book: &Book, register: &mut R, place: u16, link: u8) ->
 
 /// Is the chart of the row at a place marked final?
 fn is_final_row<R: Register>(book: &Book, register: &R, place: u16) -> bool
-    ensures { result ≡ (chartNumbered (book_value book.now) (row_at (rows register.now) place).class.chart).final }
+    ensures { result ≡ (chart_numbered (book_value book.now) (row_at (R.rows register.now) place).class.chart).final }
 {
     is_final(book, row_at(register, place).class.chart)
 }
@@ -96,7 +115,7 @@ fn is_final_row<R: Register>(book: &Book, register: &R, place: u16) -> bool
 /// Open at the first pair behind that of a row and a link, or empty if there is none.
 fn pair_behind<R: Register>(book: &Book, register: &R, place: u16, link: u8) -> Phase
     requires { length (book_value book.now).links ≤ 128 }
-    ensures { Found (classes (book_value book.now)) (rows_of (book_value book.now) (rows register.now)) place (link + 1) (phase_of result) }
+    ensures { Found (ranged (book_value book.now)) (rows_of (book_value book.now) (R.rows register.now)) place (link + 1) (phase_of result) }
 {
     next_pair(book, register, place, usize::from(link) + 1)
 }
@@ -110,7 +129,7 @@ fn phase_after<R: Register>(
     outcome: Outcome,
 ) -> Phase
     requires { length (book_value book.now).links ≤ 128 }
-    ensures { Follows (book_value book.now) (rows register.now) place link outcome result }
+    ensures { Follows (book_value book.now) (R.rows register.now) place link outcome result }
 {
     match outcome {
         Outcome::Full => Phase::Spent,
@@ -135,8 +154,8 @@ pub fn step<R: Register, W: Watch>(
 ) -> Phase
     requires good { GoodBook (book_value book.now) }
     requires exists { link < length (book_value book.now).links }
-    ensures stepped { Stepped (book_value book.now) (capacity register.old) (rows register.old) place link (rows register.new) result }
-    ensures capacity { capacity register.new ≡ capacity register.old }
+    ensures stepped { Stepped (book_value book.now) (R.capacity register.old) (R.rows register.old) place link (R.rows register.new) result }
+    ensures capacity { R.capacity register.new ≡ R.capacity register.old }
 {
     let outcome = try_pair(book, register, place, link);
     watch.tried(place, link, outcome);
@@ -146,7 +165,7 @@ pub fn step<R: Register, W: Watch>(
 /// Open at the first pair of all, or empty if there is none.
 fn first_pair<R: Register>(book: &Book, register: &R) -> Phase
     requires { length (book_value book.now).links ≤ 128 }
-    ensures { Found (classes (book_value book.now)) (rows_of (book_value book.now) (rows register.now)) 0 0 (phase_of result) }
+    ensures { Found (ranged (book_value book.now)) (rows_of (book_value book.now) (R.rows register.now)) 0 0 (phase_of result) }
 {
     next_pair(book, register, 0, 0)
 }
@@ -154,9 +173,9 @@ fn first_pair<R: Register>(book: &Book, register: &R) -> Phase
 /// Clears the register and begins the walk with the first chart.
 pub fn begin_walk<R: Register>(book: &Book, register: &mut R) -> Phase
     requires good { GoodBook (book_value book.now) }
-    requires room { 0 < capacity register.old }
-    ensures started { Started (book_value book.now) (rows register.new) result }
-    ensures capacity { capacity register.new ≡ capacity register.old }
+    requires room { 0 < R.capacity register.old }
+    ensures started { Started (book_value book.now) (R.rows register.new) result }
+    ensures capacity { R.capacity register.new ≡ R.capacity register.old }
 {
     register.clear();
     let Some(class) = first_class(book) else {

@@ -1,4 +1,4 @@
-use Rattle.std.proofs.Common.{◌≡◌, sym, refl, ap, ◌∙◌, subst, arith}
+use Rattle.std.proofs.Common.{refl, ◌∙◌, arith}
 use Rattle.bookformat.specs.Values.{book_value}
 use Rattle.walk.proofs.Onward.{under_none, under_more, next_exists, gone_closed, gone_whole}
 use Rattle.walk.proofs.going.go_on.Goals as goal
@@ -6,9 +6,9 @@ use Rattle.walk.proofs.going.go_on.Goals as goal
 pub loop-steps-init : goal.loop-steps-init
 loop-steps-init g c = (refl, under_none (book_value c.args.book.now) (g.R.Register.capacity c.args.register.now) (g.R.Register.rows c.args.register.now) c.args.phase c.requires.exists)
 
-pub returns-in-default : goal.returns-in-default
-returns-in-default g c = record {
-  gone = gone_closed (book_value c.args.book.now) (g.R.Register.capacity c.args.register.now) (g.R.Register.rows c.args.register.now) c.args.phase c.args.budget c.loop-steps.steps (g.R.Register.rows c.loop-steps.register) c.loop-steps.at c.loop-steps.invariant.1 c.loop-steps-test.true c.in-default.not-Open;
+pub returns-in_default : goal.returns-in_default
+returns-in_default g c = record {
+  gone = gone_closed (book_value c.args.book.now) (g.R.Register.capacity c.args.register.now) (g.R.Register.rows c.args.register.now) c.args.phase c.args.budget c.loop-steps.steps (g.R.Register.rows c.loop-steps.register) c.loop-steps.at c.loop-steps.invariant.1 c.loop-steps-test.true c.in_default.not-Open;
   capacity = c.loop-steps.invariant.0;
 }
 

@@ -1,4 +1,3 @@
-use Rattle.std.proofs.Common.{ℕ}
 use Rattle.bookformat.specs.Values.{book_value}
 use Rattle.walk.proofs.Seeking.{Sought}
 use Rattle.walk.proofs.pairs.next_pair.Given as goal

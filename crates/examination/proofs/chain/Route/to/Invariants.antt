@@ -1,6 +1,6 @@
 use Rattle.std.proofs.Common.{◌≡◌, ◌-◌, ◌≤◌, length}
 use Rattle.examination.specs.Chains.{ClimbsTo}
-use Rattle.examination.proofs.Climbing.{Within, Filled}
+use Rattle.examination.proofs.Climbing.{Filled}
 use Rattle.examination.proofs.chain.Route.to.Given as goal
 
 abbrev pub invariant-loop-start : goal.invariant-loop-start
