@@ -1,5 +1,6 @@
 //! Reads a chart book from standard input, looks for a final path that can be dated, and writes the report; or, of a book that
 //! is refused, the notice.
+#![tactic(auto)]
 
 use anyhow::anyhow;
 use bookformat::Fault;

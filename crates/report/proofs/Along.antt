@@ -1,16 +1,16 @@
 -- The lines of a path's charts, stop after stop.
-use Rattle.std.proofs.Common.{◌≡◌, ℕ, zero, suc, ◌+◌, ◌-◌, ◌*◌, ◌<◌, ◌≤◌, List, [], ◌∷◌, ◌++◌, length, get_or, take, drop, Some, None, Option, sym, refl, ap, ◌∙◌, subst, append_assoc, add-one, arith, length-append}
+use Rattle.std.proofs.Common.{◌≡◌, ℕ, zero, suc, ◌+◌, ◌-◌, ◌≤◌, List, length, get_or, take, drop, Some, None, Option, sym, refl, ap, ◌∙◌, subst, append_assoc, add-one, arith, length-append}
 use Rattle.bookformat.specs.Values.{BookValue, held}
 use Rattle.paths.specs.Charts.{event_count}
 use Rattle.paths.specs.Paths.{chart_number, chart_at}
-use Rattle.paths.specs.Listing.{events_before, events_of}
+use Rattle.paths.specs.Listing.{events_of}
 use Rattle.paths.proofs.Listed.{before_rises}
 use Rattle.earliest.specs.declared.stops.Stop.{Stop}
 use Rattle.earliest.specs.Positions.{At}
 use Rattle.earliest.proofs.Placing.{count_at, end_is}
 use Rattle.history.specs.Meanings.{link_to}
-use Rattle.report.specs.Texts.{feed, Holds, Puts}
-use Rattle.report.specs.Reports.{spaced, link_text, dates_text, line_text, dates_at, lines_text, dates_of, line_size, PutsLine}
+use Rattle.report.specs.Texts.{Holds, Puts}
+use Rattle.report.specs.Reports.{line_text, dates_at, lines_text, dates_of, line_size, PutsLine}
 use Rattle.report.proofs.Placed.{puts_none, puts_both, puts_as}
 use Rattle.report.proofs.Dated.{line_length}
 

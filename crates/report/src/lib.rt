@@ -1,4 +1,5 @@
 //! What the calls answer, as text in the caller's space.
+#![tactic(auto)]
 
 mod found;
 mod lines;

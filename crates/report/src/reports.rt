@@ -16,7 +16,7 @@ pub fn report<R: Register>(
     work: &mut [u32],
     text: &mut [u8],
 ) -> Result<usize, Fault>
-    ensures { ReportMeans (view_of examination.now.book examination.now.phase (rows register.now)) work.old text.old result work.new text.new }
+    ensures { ReportMeans (view_of examination.now.book examination.now.phase (R.rows register.now)) work.old text.old result work.new text.new }
 {
     match examination.verdict(register).state {
         State::Idle => Err(Fault::Idle),

@@ -3,4 +3,4 @@ use Rattle.report.proofs.Placed.{put_law}
 use Rattle.report.proofs.pieces.put.Goals as goal
 
 pub returns : goal.returns
-returns c = (refl, put_law c.args.space.now c.args.piece.now c.copy-from-slice.new.self c.args.at _ c.copy-from-slice.ensures.after (omega arith))
+returns c = (refl, put_law c.args.space.now c.args.piece.now c.copy_from_slice.new.self c.args.at _ c.copy_from_slice.ensures.after (omega arith))

@@ -5,5 +5,5 @@ use Rattle.report.proofs.pieces.put_number.Goals as goal
 pub returns : goal.returns
 returns c =
     puts_both c.args.space.now c.put-end.new.space c.put.new.space c.args.at c.put-end.result c.put.result (decimal c.args.n) (c.args.ending ∷ [])
-    (puts_as c.args.space.now c.put-end.new.space c.args.at c.put-end.result c.as-slice.result.now (decimal c.args.n) (c.as-slice.ensures ∙ c.of.ensures) c.put-end.ensures)
+    (puts_as c.args.space.now c.put-end.new.space c.args.at c.put-end.result c.as_slice.result.now (decimal c.args.n) (c.as_slice.ensures ∙ c.of.ensures) c.put-end.ensures)
     c.put.ensures

@@ -7,7 +7,7 @@ pub loop-date-preserved : goal.loop-date-preserved
 loop-date-preserved c =
     let more = length_more c.args.dates.now c.loop-date.date-index c.loop-date-test.true in
     let same = ap (λ n. length (spaced n)) c.from.ensures in
-    (omega (arith, more, same, c.loop-date.invariant.0, c.digit-count.ensures.0), omega (arith, c.loop-date.invariant.1, c.digit-count.ensures.1))
+    (omega (arith, more, same, c.loop-date.invariant.0, c.digit_count.ensures.0), omega (arith, c.loop-date.invariant.1, c.digit_count.ensures.1))
 
 pub returns : goal.returns
 returns c =

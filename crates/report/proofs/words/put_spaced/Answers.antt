@@ -7,4 +7,4 @@ pub returns : goal.returns
 returns c =
     puts_both c.args.space.now c.put-start.new.space c.put.new.space c.args.at c.put-start.result c.put.result (blank ∷ []) (decimal c.args.n)
     c.put-start.ensures
-    (puts_as c.put-start.new.space c.put.new.space c.put-start.result c.put.result c.as-slice.result.now (decimal c.args.n) (c.as-slice.ensures ∙ c.of.ensures) c.put.ensures)
+    (puts_as c.put-start.new.space c.put.new.space c.put-start.result c.put.result c.as_slice.result.now (decimal c.args.n) (c.as_slice.ensures ∙ c.of.ensures) c.put.ensures)

@@ -57,6 +57,9 @@ pub fn walk_through<R: Register, W: Watch>(
 ) -> Result<Verdict, Fault> {
     let mut answers = [Answer::Begun(Ok(State::Idle))];
     let mut examination = conduct(register, &[Call::Begin(bytes)], &mut answers, &mut [])?;
+    if let Answer::Begun(Err(fault)) = answers[0] {
+        return Err(fault);
+    }
     let _ = examination.advance_watched(register, u16::MAX, watch)?;
     Ok(examination.verdict(register))
 }
