@@ -1,5 +1,5 @@
-//! The cost of steps and of dates, in one run. From the repository: rt staticlib examination_c, then cargo run --release
-//! here with RATTLE_LIB set to the kit's folder lib.
+//! The cost of steps and of dates, in one run. From the repository: rt lib in crates/examination_c, then cargo run --release
+//! here with RATTLE_LIB set to the kit's folder c.
 mod book;
 mod closing;
 mod sweep;

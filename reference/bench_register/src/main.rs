@@ -1,5 +1,5 @@
 // Times entering unlike rows into both registers, in one run: nanoseconds per row, and the ratio. To run it from the
-// repository: rt staticlib register_c, then cargo run --release here with RATTLE_LIB set to the kit's folder lib.
+// repository: rt lib in crates/register_c, then cargo run --release here with RATTLE_LIB set to the kit's folder c.
 use std::time::Instant;
 
 unsafe extern "C" {

@@ -36,21 +36,39 @@ fn damaged_books_are_refused() {
 
 #[test]
 fn good_books_are_taken() {
-    for name in ["countdown", "countdown-near-2", "countdown-late", "countdown-100", "circle", "one-message", "one-message-near-0"] {
+    for name in
+        ["countdown", "countdown-near-2", "countdown-late", "countdown-100", "circle", "one-message", "one-message-near-0"]
+    {
         assert!(read_book(&book(name)).is_ok(), "{name}");
     }
 }
 
-/// The list that stands beside the books names every one of them, with the first line of its report or the notice.
+// The lines of a list that stands beside the books: it names every one of them, with an answer as text.
+fn answers(list: &str) -> Vec<(String, Vec<u8>, String)> {
+    let folder = format!("{}/../../books", env!("CARGO_MANIFEST_DIR"));
+    let text = std::fs::read_to_string(format!("{folder}/{list}")).unwrap();
+    let files = std::fs::read_dir(&folder).unwrap().map(|entry| entry.unwrap().file_name().into_string().unwrap());
+    assert_eq!(files.filter(|file| file.ends_with(".book")).count(), text.lines().count());
+    text.lines()
+        .map(|line| {
+            let (file, expected) = line.split_once(' ').unwrap();
+            (file.to_string(), std::fs::read(format!("{folder}/{file}")).unwrap(), expected.to_string())
+        })
+        .collect()
+}
+
 #[test]
 fn every_book_has_the_answer_of_the_list() {
-    let folder = format!("{}/../../books", env!("CARGO_MANIFEST_DIR"));
-    let list = std::fs::read_to_string(format!("{folder}/answers")).unwrap();
-    for line in list.lines() {
-        let (file, expected) = line.split_once(' ').unwrap();
-        let bytes = std::fs::read(format!("{folder}/{file}")).unwrap();
-        assert_eq!(check(&bytes).lines().next(), Some(expected), "{file}");
+    for (file, bytes, expected) in answers("answers") {
+        let answer = read_book(&bytes).map_or_else(|fault| fault.to_string(), |_| "taken".to_string());
+        assert_eq!(answer, expected, "{file}");
     }
-    let files = std::fs::read_dir(folder).unwrap().map(|entry| entry.unwrap().file_name().into_string().unwrap());
-    assert_eq!(files.filter(|file| file.ends_with(".book")).count(), list.lines().count());
+}
+
+/// The first line of the report, or the notice.
+#[test]
+fn every_book_has_the_verdict_of_the_list() {
+    for (file, bytes, expected) in answers("verdicts") {
+        assert_eq!(check(&bytes).lines().next(), Some(expected.as_str()), "{file}");
+    }
 }
