@@ -11,6 +11,8 @@ use Rattle.bookformat.specs.declared.value.Interval.{Interval}
 use Rattle.bookformat.specs.declared.value.Constraint.{Constraint}
 use Rattle.bookformat.specs.declared.value.Link.{Link}
 use Rattle.bookformat.specs.Values.{ChartValue, BookValue}
+use Rattle.bookformat.specs.declared.book.Book.{Book}
+use Rattle.bookformat.specs.Books.{book_value}
 use Rattle.bookformat.specs.Rules.{GoodBook}
 use Rattle.bookformat.specs.Encoding.{encode}
 use Rattle.bookformat.specs.Layout.{book_at}
@@ -81,3 +83,7 @@ good_known v known = subst GoodBook said (good_book (encode v) (book_passes (enc
 
     none : fault (encode v) ≡ None
     none = fails (fault (encode v)) refl
+
+-- every stored book is good
+pub is_good : (b : Book) → GoodBook (book_value b)
+is_good b = good_known (book_value b) b.good

@@ -10,3 +10,4 @@ pub mod Books
 pub mod Taken
 pub mod GoodTaken
 pub mod Known
+pub mod Smallest

@@ -1,7 +1,10 @@
 pub mod Refusals
 pub mod Values
+pub mod Books
+pub mod Smallest
 pub mod Encoding
 pub mod Rules
 pub mod Layout
 pub mod Reading
+pub mod Bytes
 pub mod Laws

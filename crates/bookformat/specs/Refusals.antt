@@ -1,5 +1,5 @@
 -- The number, the layer and the place of each fault. Layers: 1 bytes, 2 chart, 3 link, 4 call.
-use Rattle.std.specs.Prelude.{ℕ}
+use Rattle.std.specs.Prelude.{ℕ, List, ◌∷◌, ◌++◌, decimal}
 use Rattle.bookformat.specs.declared.fault.Fault.{Fault}
 use Rattle.bookformat.specs.declared.fault.Fault.TheVariants.{RecordCut, WrongMark, WrongVersion, FieldOutOfRange, TrailingBytes, BadEvent, NotDirectlyBefore, BadConstraintInterval, BadLinkInterval, CyclicOrder, NoSuchChart, IntervalNotDue, NoCapacity, Idle, NotRunning, OffPath, TooLittleSpace, BadLinkNumber, WrongDateCount}
 use Rattle.bookformat.specs.declared.fault.Refusal.{Refusal}
@@ -27,3 +27,7 @@ refusal (OffPath charts) = told 14 4 charts
 refusal (TooLittleSpace needed) = told 15 4 needed
 refusal (BadLinkNumber position) = told 16 4 position
 refusal (WrongDateCount needed) = told 17 4 needed
+
+-- the text of a refusal: the word, and the numbers in decimal, each behind a space
+abbrev pub refused : Refusal → List ℕ
+refused told = 114 ∷ 101 ∷ 102 ∷ 117 ∷ 115 ∷ 101 ∷ 100 ∷ 32 ∷ (decimal told.number ++ (32 ∷ (decimal told.layer ++ (32 ∷ decimal told.place))))

@@ -31,6 +31,9 @@ event es e = slice_index_or es e no_event
 abbrev pub chart : BookValue → ℕ → ChartValue
 chart b c = slice_index_or b.charts c no_chart
 
+abbrev pub link : BookValue → ℕ → Link
+link b l = slice_index_or b.links l no_link
+
 -- event e is directly before f: f is listed later on its station, or is its receive
 pub data DirectlyBefore (es : List Event) (e f : ℕ) : Type 0 where
   listed_later : e < f → f < length es → (event es e).station ≡ (event es f).station → DirectlyBefore es e f

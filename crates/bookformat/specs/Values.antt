@@ -1,11 +1,9 @@
 -- A book as a value: plain lists and records.
-use Rattle.std.specs.Prelude.{ℕ, Bool, List, map, take}
-use Rattle.bookformat.specs.declared.bounded.Bounded.{Bounded}
+use Rattle.std.specs.Prelude.{ℕ, Bool, List, map}
 use Rattle.bookformat.specs.declared.value.Event.{Event}
 use Rattle.bookformat.specs.declared.value.Constraint.{Constraint}
 use Rattle.bookformat.specs.declared.value.Link.{Link}
 use Rattle.bookformat.specs.declared.value.Chart.{Chart}
-use Rattle.bookformat.specs.declared.value.Book.{Book}
 
 -- a chart: its working events by number, its constraints in listing order, and whether it is marked final
 pub record ChartValue : Type 0 where
@@ -22,12 +20,9 @@ pub record BookValue : Type 0 where
   pub charts : List ChartValue
   pub links : List Link
 
--- the items that the storage holds
-abbrev pub held : {T : Type 0} {n : ℕ} → Bounded T n → List T
-held b = take b.len b.items
-
 abbrev pub chart_value : Chart → ChartValue
-chart_value c = record { events = held c.events; constraints = held c.constraints; final = c.is_final }
+chart_value c = record { events = c.events.items; constraints = c.constraints.items; final = c.is_final }
 
-abbrev pub book_value : Book → BookValue
-book_value b = record { stations = b.stations; first = b.first; near = b.near; far = b.far; charts = map chart_value (held b.charts); links = held b.links }
+-- the book with these fields
+abbrev pub value_of : ℕ → ℕ → ℕ → ℕ → List Chart → List Link → BookValue
+value_of stations first near far charts links = record { stations = stations; first = first; near = near; far = far; charts = map chart_value charts; links = links }

@@ -1,5 +1,7 @@
-ghost use Rattle.std.specs.Prelude.{◌≡◌};
-ghost use Rattle.bookformat.specs.Refusals.{refusal};
+ghost use Rattle.std.specs.Prelude.{◌≡◌, Some};
+ghost use Rattle.bookformat.specs.Refusals.{refusal, refused};
+
+use std::fmt;
 
 /// Why a book, a call or a path is refused, with the place.
 #[derive(Clone, Copy, Debug)]
@@ -49,11 +51,11 @@ pub struct Refusal {
     pub place: usize,
 }
 
-impl Fault {
-    pub fn refusal(self) -> Refusal
-        ensures { result ≡ refusal self }
-    {
-        let (number, layer, place) = match self {
+impl From<Fault> for Refusal {
+    ghost from_gives = { λ fault told. told ≡ refusal fault };
+
+    fn from(fault: Fault) -> Refusal {
+        let (number, layer, place) = match fault {
             Fault::RecordCut { place } => (1, 1, place),
             Fault::WrongMark => (2, 1, 0),
             Fault::WrongVersion => (2, 1, 3),
@@ -79,5 +81,18 @@ impl Fault {
             layer,
             place,
         }
+    }
+}
+
+impl fmt::Display for Refusal {
+    ghost output = { λ told. Some (refused told) };
+
+    fn fmt<W: fmt::Write>(&self, f: &mut fmt::Formatter<W>) -> fmt::Result {
+        let Refusal {
+            number,
+            layer,
+            place,
+        } = *self;
+        write!(f, "refused {number} {layer} {place}")
     }
 }

@@ -3,13 +3,16 @@
 
 ghost use Rattle.bookformat.specs.Laws.{TakenGood, GoodTaken, GoodRead};
 
-mod bounded;
+mod book;
+mod bytes;
 mod fault;
 mod value;
 
-pub use bounded::Bounded;
+pub use arrayvec::ArrayVec;
+pub use book::Book;
+pub use bytes::{LONGEST, UnknownKind};
 pub use fault::{Fault, Refusal};
-pub use value::{Book, Chart, Constraint, Event, Interval, Kind, Link};
+pub use value::{Chart, Constraint, Event, Interval, Kind, Link};
 
 /// The bytes of a good book, and no others, pass every test, and they say that book.
 pub fn tests_match_rules()

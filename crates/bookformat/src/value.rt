@@ -1,14 +1,15 @@
-use crate::bounded::Bounded;
+use arrayvec::ArrayVec;
 
 /// What an event does on its station.
-#[derive(Clone, Copy, PartialEq, Eq)]
+#[derive(Clone, Copy, Debug, Default, PartialEq, Eq)]
 pub enum Kind {
+    #[default]
     Send,
     Receive,
 }
 
 /// A working event of a chart; `pair` is the number of the other event of its message.
-#[derive(Clone, Copy)]
+#[derive(Clone, Copy, Debug, Default)]
 pub struct Event {
     pub station: u8,
     pub kind: Kind,
@@ -16,14 +17,14 @@ pub struct Event {
 }
 
 /// Ticks from `lower` to `upper`, both ends counted; `None` where there is no upper end.
-#[derive(Clone, Copy)]
+#[derive(Clone, Copy, Debug, Default)]
 pub struct Interval {
     pub lower: u16,
     pub upper: Option<u16>,
 }
 
 /// The date of event `second` minus that of event `first` lies in the interval.
-#[derive(Clone, Copy)]
+#[derive(Clone, Copy, Debug, Default)]
 pub struct Constraint {
     pub first: u8,
     pub second: u8,
@@ -31,28 +32,17 @@ pub struct Constraint {
 }
 
 /// A message sequence chart with its times.
-#[derive(Clone, Copy)]
+#[derive(Default, Drop)]
 pub struct Chart {
-    pub events: Bounded<Event, 40>,
-    pub constraints: Bounded<Constraint, 64>,
+    pub events: ArrayVec<Event, 40>,
+    pub constraints: ArrayVec<Constraint, 64>,
     pub is_final: bool,
 }
 
 /// Chart `to` may follow chart `from`, with an interval for each station.
-#[derive(Clone, Copy)]
+#[derive(Clone, Copy, Debug, Default)]
 pub struct Link {
     pub from: u8,
     pub to: u8,
     pub intervals: [Interval; 8],
-}
-
-/// A chart book. The format's own limits size its storage.
-#[derive(Clone, Copy)]
-pub struct Book {
-    pub stations: u8,
-    pub first: u8,
-    pub near: u16,
-    pub far: u16,
-    pub charts: Bounded<Chart, 32>,
-    pub links: Bounded<Link, 128>,
 }

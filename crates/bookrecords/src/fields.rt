@@ -1,16 +1,14 @@
-ghost use Rattle.std.specs.Prelude.{◌≡◌, ◌+◌, ◌*◌, ◌<◌, ◌≤◌, length, nat_eq, slice_index};
-ghost use Rattle.bookformat.specs.Layout.{kind_of, end_of};
-ghost use Rattle.bookformat.specs.Reading.{between, is_proper, is_unbounded, is_paired, is_silent, is_apart, station_tests, ends_fields, end_test, header_fields, head_fields, event_fields, constraint_fields};
+ghost use Rattle.std.specs.Prelude.{◌≡◌, ◌<◌, ◌≤◌, length, nat_eq};
+ghost use Rattle.bookformat.specs.Layout.{kind_of};
+ghost use Rattle.bookformat.specs.Reading.{is_proper, is_unbounded, is_paired, is_silent, is_apart, station_tests, ends_fields, end_test, header_fields, head_fields, event_fields, constraint_fields};
 ghost use Rattle.bookrecords.specs.Answers.{Tested};
 
+use crate::singles::EventSetting;
 use bookformat::{Constraint, Event, Fault, Interval, Kind};
 use chartorder::is_directly_before;
 
 /// The most that an end of an interval or a drift bound may be.
 const MOST: u16 = 10_000;
-
-/// All bits set: no upper end.
-const NONE: u16 = 0xffff;
 
 /// The fields of the header after the mark.
 #[derive(Clone, Copy)]
@@ -31,20 +29,14 @@ pub struct ChartHead {
     pub is_final: bool,
 }
 
-fn is_within(low: usize, high: usize, n: usize) -> bool
-    ensures { result ≡ between low high n }
-{
-    low <= n && n <= high
-}
-
 impl Header {
     /// The header, where each field is in its range.
     pub fn tested(self) -> Result<Header, Fault>
         ensures { Tested result (header_fields self.stations self.charts self.first self.links self.near self.far) (λ h. h ≡ self) }
     {
-        let place = if !is_within(2, 8, usize::from(self.stations)) {
+        let place = if !(2..=8).contains(&self.stations) {
             5
-        } else if !is_within(1, 32, self.charts) {
+        } else if !(1..=32).contains(&self.charts) {
             6
         } else if usize::from(self.first) >= self.charts {
             7
@@ -71,7 +63,7 @@ pub fn chart_head(
     requires { place ≤ 20000 }
     ensures { Tested result (head_fields events constraints final_mark place) (λ h. h ≡ record { events = events; constraints = constraints; is_final = nat_eq final_mark 1 }) }
 {
-    if !is_within(2, 40, events) || events % 2 != 0 {
+    if !(2..=40).contains(&events) || events % 2 != 0 {
         return Err(Fault::FieldOutOfRange { place });
     }
     if constraints > 64 {
@@ -87,32 +79,13 @@ pub fn chart_head(
     })
 }
 
-/// 16 bits, the high byte first.
-pub fn word(high: u8, low: u8) -> u16
-    ensures { result ≡ high * 256 + low }
-{
-    u16::from_be_bytes([high, low])
-}
-
-/// The interval that four bytes say.
-pub fn interval(lower: [u8; 2], upper: [u8; 2]) -> Interval
-    ensures { result ≡ record { lower = slice_index lower 0 * 256 + slice_index lower 1; upper = end_of (slice_index upper 0 * 256 + slice_index upper 1) } }
-{
-    let end = word(upper[0], upper[1]);
-    Interval {
-        lower: word(lower[0], lower[1]),
-        upper: if end == NONE { None } else { Some(end) },
-    }
-}
-
 /// Is no end above 10,000, and the lower not above the upper?
 pub fn is_proper(i: Interval) -> bool
     ensures { result ≡ is_proper i }
 {
-    match i.upper {
-        Some(upper) => i.lower <= MOST && upper <= MOST && i.lower <= upper,
-        None => i.lower <= MOST,
-    }
+    i.lower <= MOST
+        && i.upper
+            .is_none_or(|upper| upper <= MOST && i.lower <= upper)
 }
 
 /// Is it 0, none?
@@ -122,24 +95,19 @@ fn is_unbounded(i: Interval) -> bool
     i.lower == 0 && i.upper.is_none()
 }
 
-/// An event by its three bytes, in a chart with so many events.
+/// An event by its three bytes.
 pub fn event(
     station: u8,
     kind: u8,
     pair: u8,
-    stations: u8,
-    events: usize,
+    setting: &EventSetting,
     place: usize,
 ) -> Result<Event, Fault>
-    ensures { Tested result (event_fields stations events station kind pair place) (λ e. e ≡ record { station = station; kind = kind_of kind; pair = pair }) }
+    ensures { Tested result (event_fields setting.now.stations setting.now.events station kind pair place) (λ e. e ≡ record { station = station; kind = kind_of kind; pair = pair }) }
 {
     let fault = Fault::BadEvent { place };
-    let kind = match kind {
-        0x21 => Kind::Send,
-        0x3f => Kind::Receive,
-        _ => return Err(fault),
-    };
-    if station >= stations || usize::from(pair) >= events {
+    let kind = Kind::try_from(kind).map_err(|_| fault)?;
+    if station >= setting.stations || usize::from(pair) >= setting.events {
         return Err(fault);
     }
     Ok(Event {
@@ -190,12 +158,7 @@ pub fn constraint(
 pub fn is_silent(events: &[Event], station: usize) -> bool
     ensures { result ≡ is_silent events.now station }
 {
-    for e in events {
-        if usize::from(e.station) == station {
-            return false;
-        }
-    }
-    true
+    events.iter().all(|e| usize::from(e.station) != station)
 }
 
 /// Does the station take no part in a link between charts with such events?

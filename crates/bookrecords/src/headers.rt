@@ -4,7 +4,7 @@ ghost use Rattle.bookformat.specs.Reading.{mark_tests, header_tests};
 ghost use Rattle.bookrecords.specs.Answers.{Tested};
 ghost use Rattle.bookrecords.specs.Headers.{header_at};
 
-use crate::fields::{Header, word};
+use crate::fields::Header;
 use crate::records::{RecordKind, Watch, watched_record};
 use bookformat::Fault;
 
@@ -38,17 +38,13 @@ fn read_rest<W: Watch>(book: &[u8], watch: &mut W) -> Result<Header, Fault>
     else {
         return Err(Fault::RecordCut { place: 5 });
     };
-    let near = word(*near_high, *near_low);
-    let far = word(*far_high, *far_low);
-    let charts = usize::from(*charts);
-    let links = usize::from(*links);
     Header {
         stations: *stations,
-        charts,
+        charts: usize::from(*charts),
         first: *first,
-        links,
-        near,
-        far,
+        links: usize::from(*links),
+        near: u16::from_be_bytes([*near_high, *near_low]),
+        far: u16::from_be_bytes([*far_high, *far_low]),
     }
     .tested()
 }

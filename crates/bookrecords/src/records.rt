@@ -61,6 +61,7 @@ pub fn record(book: &[u8], place: usize, len: usize) -> Result<&[u8], Fault>
     Ok(&book[place..place + len])
 }
 
+// (The book and its watcher go side by side: a struct of both would say in each contract that its book stays.)
 /// The record of a kind at a place, which the watcher is told of.
 pub fn watched_record<'a, W: Watch>(
     book: &'a [u8],

@@ -2,10 +2,12 @@ ghost use Rattle.std.specs.Prelude.{◌≡◌, ◌+◌, ◌≤◌, ◌==◌};
 ghost use Rattle.bookformat.specs.Layout.{byte, event_at, constraint_at};
 ghost use Rattle.bookformat.specs.Reading.{head_tests, event_tests, constraint_tests};
 ghost use Rattle.bookrecords.specs.Answers.{Tested};
+ghost use Rattle.std.proofs.Common.{rules};
 
-use crate::fields::{ChartHead, chart_head, constraint, event, interval};
+use crate::fields::{ChartHead, chart_head, constraint, event};
+use crate::lists::Listed;
 use crate::records::{RecordKind, Watch, watched_record};
-use bookformat::{Constraint, Event, Fault};
+use bookformat::{ArrayVec, Constraint, Event, Fault, Interval};
 
 pub fn read_head<W: Watch>(
     book: &[u8],
@@ -28,36 +30,63 @@ pub fn read_head<W: Watch>(
     )
 }
 
-pub fn read_event<W: Watch>(
-    book: &[u8],
-    place: usize,
-    number: usize,
-    stations: u8,
-    events: usize,
-    watch: &mut W,
-) -> Result<Event, Fault>
-    ensures { Tested result (event_tests book.now stations events place) (λ e. e ≡ event_at book.now place) }
-{
-    let part = watched_record(book, RecordKind::Event, number, place, watch)?;
-    let [station, kind, pair] = part else {
-        return Err(Fault::RecordCut { place });
-    };
-    event(*station, *kind, *pair, stations, events, place)
+/// What an event's tests go by: how many stations the book has, and how many events the chart.
+#[derive(Clone, Copy)]
+pub struct EventSetting {
+    pub stations: u8,
+    pub events: usize,
 }
 
-pub fn read_constraint<W: Watch>(
-    book: &[u8],
-    place: usize,
-    number: usize,
-    events: &[Event],
-    watch: &mut W,
-) -> Result<Constraint, Fault>
-    ensures { Tested result (constraint_tests book.now events.now place) (λ c. c ≡ constraint_at book.now place) }
-{
-    let part = watched_record(book, RecordKind::Constraint, number, place, watch)?;
-    let [first, second, lower_high, lower_low, upper_high, upper_low] = part else {
-        return Err(Fault::RecordCut { place });
-    };
-    let interval = interval([*lower_high, *lower_low], [*upper_high, *upper_low]);
-    constraint(*first, *second, interval, events, place)
+impl Listed<EventSetting> for Event {
+    const SIZE: usize = 3;
+
+    ghost SIZE = { 3 };
+
+    ghost tests = { λ book setting place. event_tests book setting.stations setting.events place };
+
+    ghost at = { event_at };
+
+    ghost short = { Prim.search rules };
+
+    fn read<W: Watch>(
+        book: &[u8],
+        place: usize,
+        number: usize,
+        setting: &EventSetting,
+        watch: &mut W,
+    ) -> Result<Event, Fault> {
+        let part = watched_record(book, RecordKind::Event, number, place, watch)?;
+        let [station, kind, pair] = part else {
+            return Err(Fault::RecordCut { place });
+        };
+        event(*station, *kind, *pair, setting, place)
+    }
+}
+
+/// A constraint's tests go by the events of its chart.
+impl Listed<ArrayVec<Event, 40>> for Constraint {
+    const SIZE: usize = 6;
+
+    ghost SIZE = { 6 };
+
+    ghost tests = { λ book events place. constraint_tests book events.items place };
+
+    ghost at = { constraint_at };
+
+    ghost short = { Prim.search rules };
+
+    fn read<W: Watch>(
+        book: &[u8],
+        place: usize,
+        number: usize,
+        events: &ArrayVec<Event, 40>,
+        watch: &mut W,
+    ) -> Result<Constraint, Fault> {
+        let part = watched_record(book, RecordKind::Constraint, number, place, watch)?;
+        let [first, second, lower_high, lower_low, upper_high, upper_low] = part else {
+            return Err(Fault::RecordCut { place });
+        };
+        let interval = Interval::from([*lower_high, *lower_low, *upper_high, *upper_low]);
+        constraint(*first, *second, interval, events, place)
+    }
 }

@@ -41,44 +41,41 @@ module _ (b : List ℕ) (stations place : ℕ) (head : ChartHead) (is : head ≡
       fault_right (head_tests b place) (chart_events b stations place ++ from_pairs) head_Passed
       ∙ fault_left (chart_events b stations place) from_pairs f (sym (ap first_fault events_are) ∙ here)
 
-  -- the events that were read, and the slice of them
-  module _ (events-passed : first_fault (each (λ k. event_tests b stations head.events (place + 3 + 3 * k)) head.events) ≡ None) (es slice : List Event) (es-are : es ≡ records (event_at b) 3 (place + 3) head.events) (slice_is : slice ≡ es) where
+  -- the events that were read
+  module _ (events-passed : first_fault (each (λ k. event_tests b stations head.events (place + 3 + 3 * k)) head.events) ≡ None) (es : List Event) (es-are : es ≡ records (event_at b) 3 (place + 3) head.events) where
     pub events_at_lem : es ≡ events_at b place
     events_at_lem = es-are ∙ ap (records (event_at b) 3 (place + 3)) events_is
 
-    slice_at : slice ≡ events_at b place
-    slice_at = slice_is ∙ events_at_lem
-
-    pub events_count : length slice ≡ byte b place
-    events_count = ap length slice_at ∙ length-map-range_with_len (λ k. event_at b (place + 3 + 3 * k)) 0 (byte b place)
+    pub events_count : length es ≡ byte b place
+    events_count = ap length events_at_lem ∙ length-map-range_with_len (λ k. event_at b (place + 3 + 3 * k)) 0 (byte b place)
 
     to_pairs : (rest : List Test) → first_fault (head_tests b place ++ (chart_events b stations place ++ rest)) ≡ first_fault rest
     to_pairs rest =
         fault_right (head_tests b place) (chart_events b stations place ++ rest) head_Passed
         ∙ fault_right (chart_events b stations place) rest (sym (ap first_fault events_are) ∙ events-passed)
 
-    pairs_are : each (pair_tests slice (place + 3)) (length slice) ≡ chart_pairs b place
+    pairs_are : each (pair_tests es (place + 3)) (length es) ≡ chart_pairs b place
     pairs_are =
-        ap (λ (l : List Event). each (pair_tests l (place + 3)) (length slice)) slice_at
+        ap (λ (l : List Event). each (pair_tests l (place + 3)) (length es)) events_at_lem
         ∙ ap (each (pair_tests (events_at b place) (place + 3))) events_count
 
-    pub pairs_fail : (f : Fault) → first_fault (each (pair_tests slice (place + 3)) (length slice)) ≡ Some f → first_fault (chart_tests b stations place) ≡ Some f
+    pub pairs_fail : (f : Fault) → first_fault (each (pair_tests es (place + 3)) (length es)) ≡ Some f → first_fault (chart_tests b stations place) ≡ Some f
     pairs_fail f here = to_pairs from_pairs ∙ fault_left (chart_pairs b place) from_constraints f (sym (ap first_fault pairs_are) ∙ here)
 
-    constraints_are : each (λ k. constraint_tests b slice (place + 3 + 3 * head.events + 6 * k)) head.constraints ≡ chart_constraints b place
+    constraints_are : each (λ k. constraint_tests b es (place + 3 + 3 * head.events + 6 * k)) head.constraints ≡ chart_constraints b place
     constraints_are =
-        ap (λ (l : List Event). each (λ k. constraint_tests b l (place + 3 + 3 * head.events + 6 * k)) head.constraints) slice_at
+        ap (λ (l : List Event). each (λ k. constraint_tests b l (place + 3 + 3 * head.events + 6 * k)) head.constraints) events_at_lem
         ∙ ap (λ (h : ChartHead). each (λ k. constraint_tests b (events_at b place) (place + 3 + 3 * h.events + 6 * k)) h.constraints) is
 
-    module _ (pairs-passed : first_fault (each (pair_tests slice (place + 3)) (length slice)) ≡ None) where
+    module _ (pairs-passed : first_fault (each (pair_tests es (place + 3)) (length es)) ≡ None) where
       to_constraints : first_fault (chart_tests b stations place) ≡ first_fault from_constraints
       to_constraints = to_pairs from_pairs ∙ fault_right (chart_pairs b place) from_constraints (sym (ap first_fault pairs_are) ∙ pairs-passed)
 
-      pub constraints_fail : (f : Fault) → first_fault (each (λ k. constraint_tests b slice (place + 3 + 3 * head.events + 6 * k)) head.constraints) ≡ Some f → first_fault (chart_tests b stations place) ≡ Some f
+      pub constraints_fail : (f : Fault) → first_fault (each (λ k. constraint_tests b es (place + 3 + 3 * head.events + 6 * k)) head.constraints) ≡ Some f → first_fault (chart_tests b stations place) ≡ Some f
       constraints_fail f here = to_constraints ∙ fault_left (chart_constraints b place) (order_tests (events_at b place) place) f (sym (ap first_fault constraints_are) ∙ here)
 
       -- what the order's test answers of the events that were read
-      module _ (constraints-passed : first_fault (each (λ k. constraint_tests b slice (place + 3 + 3 * head.events + 6 * k)) head.constraints) ≡ None) (sound : Bool) (decided : Decides sound (Acyclic es)) where
+      module _ (constraints-passed : first_fault (each (λ k. constraint_tests b es (place + 3 + 3 * head.events + 6 * k)) head.constraints) ≡ None) (sound : Bool) (decided : Decides sound (Acyclic es)) where
         to_order : first_fault (chart_tests b stations place) ≡ first_fault (order_tests (events_at b place) place)
         to_order = to_constraints ∙ fault_right (chart_constraints b place) (order_tests (events_at b place) place) (sym (ap first_fault constraints_are) ∙ constraints-passed)
 

@@ -10,7 +10,7 @@ use Rattle.bookformat.specs.declared.value.Interval.{Interval}
 use Rattle.bookformat.specs.declared.fault.Fault.TheVariants.{RecordCut}
 use Rattle.bookformat.specs.declared.value.Chart.{Chart}
 use Rattle.bookformat.specs.declared.value.Link.{Link}
-use Rattle.bookformat.specs.Values.{ChartValue, held, chart_value}
+use Rattle.bookformat.specs.Values.{ChartValue, chart_value}
 use Rattle.bookformat.specs.Layout.{byte, interval_at, records, link_at}
 use Rattle.bookformat.specs.Rules.{unbounded, no_chart}
 use Rattle.bookformat.specs.Reading.{Test, first_fault, each, station_tests, is_apart, events_of, ends_fields, link_ends, link_stations, link_tests}
@@ -78,7 +78,7 @@ module _ (b part : List ℕ) (place stations : ℕ) (charts : List Chart) (insid
   pub ends_fail : (f : Fault) → first_fault (ends_fields (length charts) from to place) ≡ Some f → first_fault (link_tests b stations values place) ≡ Some f
   ends_fail f here = fault_left (link_ends b values place) (link_stations b stations values place) f (front ∙ here)
 
-  events_of_lem : (n m : ℕ) (c : Chart) (es : List Event) → n ≡ m → n < length charts → es ≡ held (get_or charts n c).events → es ≡ events_of values m
+  events_of_lem : (n m : ℕ) (c : Chart) (es : List Event) → n ≡ m → n < length charts → es ≡ (get_or charts n c).events.items → es ≡ events_of values m
   events_of_lem n m c es e lt is =
       is ∙ sym (ap (λ (v : ChartValue). v.events) (get_or-map chart_value charts n c no_chart lt)) ∙ ap (λ k. events_of values k) e
 
@@ -86,7 +86,7 @@ module _ (b part : List ℕ) (place stations : ℕ) (charts : List Chart) (insid
   interval_same k h = sym (interval_here part (2 + 4 * k)) ∙ interval_read b part place 34 (2 + 4 * k) bytes (omega arith) ∙ ap (interval_at b) (omega arith)
 
   -- the events of the two charts
-  module _ (earlier later : Chart) (before after : List Event) (ends-pass : first_fault (ends_fields (length charts) from to place) ≡ None) (exist : (from < length charts) × (to < length charts)) (before-is : before ≡ held (get_or charts from earlier).events) (after_is : after ≡ held (get_or charts to later).events) where
+  module _ (earlier later : Chart) (before after : List Event) (ends-pass : first_fault (ends_fields (length charts) from to place) ≡ None) (exist : (from < length charts) × (to < length charts)) (before-is : before ≡ (get_or charts from earlier).events.items) (after_is : after ≡ (get_or charts to later).events.items) where
     stations_are : each (tests part place stations before after) 8 ≡ link_stations b stations values place
     stations_are =
         each_same (tests part place stations before after) (λ p. station_tests (interval_at b (place + 2 + 4 * p)) (is_apart stations (events_of values (byte b place)) (events_of values (byte b (place + 1))) p) place) 8

@@ -1,8 +1,9 @@
 -- What the tests passed or failed say about good books.
 use Rattle.std.proofs.Common.{◌≡◌, ℕ, List, Some, None, Ok, Err, Result, sym, ap, ◌∙◌, subst, arith}
 use Rattle.bookformat.specs.declared.fault.Fault.{Fault}
-use Rattle.bookformat.specs.declared.value.Book.{Book}
-use Rattle.bookformat.specs.Values.{BookValue, book_value}
+use Rattle.bookformat.specs.declared.book.Book.{Book}
+use Rattle.bookformat.specs.Values.{BookValue}
+use Rattle.bookformat.specs.Books.{book_value}
 use Rattle.bookformat.specs.Encoding.{encode}
 use Rattle.bookformat.specs.Rules.{GoodBook}
 use Rattle.bookformat.specs.Layout.{book_at}

@@ -1,9 +1,9 @@
 -- What the reader of charts answers.
 use Rattle.std.specs.Prelude.{◌≡◌, ℕ, ◌+◌, ◌*◌, ◌≤◌, List, map}
 use Rattle.std.specs.List.{range_with_len}
-use Rattle.bookformat.specs.declared.bounded.Bounded.{Bounded}
+use Rattle.arrayvec.specs.ArrayVec.{ArrayVec}
 use Rattle.bookformat.specs.declared.value.Chart.{Chart}
-use Rattle.bookformat.specs.Values.{held, chart_value}
+use Rattle.bookformat.specs.Values.{chart_value}
 use Rattle.bookformat.specs.Layout.{byte, chart_at, constraints_place, chart_place}
 
 -- the chart whose head is at a place, and the place behind it
@@ -13,7 +13,7 @@ pub record ChartRead (b : List ℕ) (place : ℕ) (c : Chart) (next : ℕ) : Typ
   pub near : next ≤ place + 507
 
 -- the first charts of a book, and the place behind them
-pub record ChartsRead (b : List ℕ) (count : ℕ) (cs : Bounded Chart 32) (next : ℕ) : Type 0 where
-  pub charts : map chart_value (held cs) ≡ map (λ k. chart_at b (chart_place b k)) (range_with_len 0 count)
+pub record ChartsRead (b : List ℕ) (count : ℕ) (cs : ArrayVec Chart) (next : ℕ) : Type 0 where
+  pub charts : map chart_value cs.items ≡ map (λ k. chart_at b (chart_place b k)) (range_with_len 0 count)
   pub next_is : next ≡ chart_place b count
   pub near : next ≤ 13 + 507 * count

@@ -1,8 +1,9 @@
 -- What reading a book answers.
 use Rattle.std.specs.Prelude.{◌≡◌, ℕ, List, Some, Ok, Err, Result, ◌≢◌}
 use Rattle.bookformat.specs.declared.fault.Fault.{Fault}
-use Rattle.bookformat.specs.declared.value.Book.{Book}
-use Rattle.bookformat.specs.Values.{BookValue, book_value}
+use Rattle.bookformat.specs.declared.book.Book.{Book}
+use Rattle.bookformat.specs.Values.{BookValue}
+use Rattle.bookformat.specs.Books.{book_value}
 use Rattle.bookformat.specs.Encoding.{encode}
 use Rattle.bookformat.specs.Rules.{GoodBook}
 use Rattle.bookformat.specs.Reading.{fault}

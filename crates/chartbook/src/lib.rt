@@ -6,7 +6,7 @@ mod links;
 mod reader;
 
 pub use bookformat::{
-    Book, Bounded, Chart, Constraint, Event, Fault, Interval, Kind, Link, Refusal,
+    ArrayVec, Book, Chart, Constraint, Event, Fault, Interval, Kind, Link, Refusal,
 };
 pub use bookrecords::{RecordKind, Unwatched, Watch, record};
 pub use reader::{read_book, read_watched};

@@ -1,5 +1,5 @@
 ghost use Rattle.std.specs.Prelude.{◌≡◌};
-ghost use Rattle.bookformat.specs.Values.{book_value};
+ghost use Rattle.bookformat.specs.Books.{book_value};
 ghost use Rattle.bookformat.specs.Layout.{book_at};
 ghost use Rattle.bookformat.specs.Laws.{Octets};
 ghost use Rattle.bookformat.specs.Reading.{reading};
@@ -7,9 +7,9 @@ ghost use Rattle.bookrecords.specs.Answers.{Tested};
 ghost use Rattle.chartbook.specs.Reads.{Reads};
 
 use crate::charts::read_charts;
-use crate::links::read_links;
+use crate::links::Front;
 use bookformat::{Book, Fault};
-use bookrecords::{Unwatched, Watch, check_end, read_header};
+use bookrecords::{Unwatched, Watch, check_end, read_header, read_list};
 
 /// Every record in reading order, each tested as it is read.
 fn read_records<W: Watch>(book: &[u8], watch: &mut W) -> Result<Book, Fault>
@@ -17,21 +17,15 @@ fn read_records<W: Watch>(book: &[u8], watch: &mut W) -> Result<Book, Fault>
 {
     let header = read_header(book, watch)?;
     let (charts, place) = read_charts(book, header.charts, header.stations, watch)?;
-    let links = read_links(
-        book,
-        place,
-        header.links,
-        header.stations,
-        charts.as_slice(),
-        watch,
-    )?;
+    let front = Front { header, charts };
+    let links = read_list(book, place, header.links, &front, watch)?;
     check_end(book.len(), place + 34 * header.links)?;
     Ok(Book {
         stations: header.stations,
         first: header.first,
         near: header.near,
         far: header.far,
-        charts,
+        charts: front.charts,
         links,
     })
 }

@@ -3,28 +3,12 @@
 
 #[cfg(test)]
 mod tests {
-    use chartbook::{Fault, Refusal, read_book};
+    use chartbook::{Refusal, read_book};
     use std::test::Fail;
-
-    // Two stations, three charts with a message each, three links.
-    const COUNTDOWN: [u8; 148] = [
-        0x54, 0x43, 0x4d, 0, 1, 2, 3, 0, 3, 0, 3, 0, 3, // mark and header
-        2, 1, 0, 0, 0x21, 1, 1, 0x3f, 0, 0, 1, 0, 3, 0, 3, // chart 0 at 13
-        2, 0, 0, 0, 0x21, 1, 1, 0x3f, 0, // chart 1 at 28
-        2, 0, 1, 1, 0x21, 1, 0, 0x3f, 0, // chart 2 at 37
-        0, 1, 0, 2, 0, 2, 0, 1, 0, 1, 0, 0, 255, 255, 0, 0, 255, 255, 0, 0, 255, 255, 0, 0, 255,
-        255, 0, 0, 255, 255, 0, 0, 255, 255, // link 0 at 46
-        1, 1, 0, 2, 0, 2, 0, 1, 0, 1, 0, 0, 255, 255, 0, 0, 255, 255, 0, 0, 255, 255, 0, 0, 255,
-        255, 0, 0, 255, 255, 0, 0, 255, 255, // link 1 at 80
-        1, 2, 0, 0, 0, 0, 0, 0, 0, 0, 0, 0, 255, 255, 0, 0, 255, 255, 0, 0, 255, 255, 0, 0, 255,
-        255, 0, 0, 255, 255, 0, 0, 255, 255, // link 2 at 114
-    ];
+    use worked_books::COUNTDOWN;
 
     fn refused(bytes: &[u8]) -> Option<Refusal> {
-        match read_book(bytes) {
-            Ok(_) => None,
-            Err(fault) => Some(fault.refusal()),
-        }
+        read_book(bytes).err().map(Refusal::from)
     }
 
     // One byte changed, and the number, the layer and the place of the refusal.
@@ -69,7 +53,7 @@ mod tests {
     fn first_fault_of_a_changed_byte(rt: HostRuntime) {
         for (at, byte, number, layer, place) in CHANGES {
             assert!(rt; at < 148);
-            let mut bytes = COUNTDOWN;
+            let mut bytes = *COUNTDOWN;
             bytes[at] = byte;
             assert_eq!(rt;
                 refused(&bytes),
@@ -100,10 +84,11 @@ mod tests {
 
     #[test]
     fn a_cut_book(rt: HostRuntime) {
+        let book = *COUNTDOWN;
         for (len, place) in CUTS {
             assert!(rt; len < 148);
             assert_eq!(rt;
-                refused(&COUNTDOWN[0..len]),
+                refused(&book[0..len]),
                 Some(Refusal {
                     number: 1,
                     layer: 1,
@@ -115,9 +100,9 @@ mod tests {
 
     #[test]
     fn the_whole_book_and_one_byte_more(rt: HostRuntime) {
-        assert_eq!(rt; refused(&COUNTDOWN), None);
+        assert_eq!(rt; refused(COUNTDOWN), None);
         let mut longer = [0u8; 149];
-        longer[0..148].copy_from_slice(&COUNTDOWN);
+        longer[0..148].copy_from_slice(COUNTDOWN);
         assert_eq!(rt;
             refused(&longer),
             Some(Refusal {
@@ -148,7 +133,7 @@ mod tests {
 
     #[test]
     fn what_is_read(rt: HostRuntime) -> Result<(), Fail> {
-        let book = read_book(&COUNTDOWN)?;
+        let book = read_book(COUNTDOWN)?;
         assert_eq!(rt;
             (book.stations, book.first, book.near, book.far),
             (2, 0, 3, 3)

@@ -3,15 +3,12 @@
 #![tactic(auto)]
 
 use anyhow::anyhow;
-use bookformat::Fault;
+use bookformat::{Fault, LONGEST};
 use examination::{Answer, Call, State, Verdict, conduct};
 use register::Register;
 use report::{notice, report};
 use scanned::ScannedRegister;
 use std::io::{Read, Write};
-
-/// The bytes of the longest book; one byte more shows that there are too many.
-const LONGEST: u64 = 20_589;
 
 const ROWS: u16 = 64;
 
@@ -46,7 +43,8 @@ fn tell<R: Register>(
 fn main(rt: HostRuntime) -> anyhow::Result<()> {
     let heap = rt.alloc();
     let mut bytes = Vec::new(heap);
-    rt.stdin().take(LONGEST + 1).read_to_end(&mut bytes)?;
+    // One byte more than the longest book has shows that there are too many.
+    rt.stdin().take(LONGEST as u64 + 1).read_to_end(&mut bytes)?;
     let mut work = vec![in heap; 0u32; MOST_DATES]?;
     let mut text = vec![in heap; 0u8; MOST_TEXT]?;
     let Ok(mut register) = ScannedRegister::new(heap, ROWS) else {
@@ -54,10 +52,7 @@ fn main(rt: HostRuntime) -> anyhow::Result<()> {
     };
     let length = match tell(&mut register, &bytes, &mut work, &mut text) {
         Ok(length) => length,
-        Err(fault) => match notice(fault, &mut text) {
-            Ok(length) => length,
-            Err(_) => 0,
-        },
+        Err(fault) => notice(fault, &mut text).unwrap_or(0),
     };
     rt.stdout().write_all(&text[..length.min(text.len())])?;
     Ok(())

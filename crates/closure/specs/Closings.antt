@@ -1,9 +1,9 @@
 -- What closing a list of weights answers, and what it makes of the list.
-use Rattle.std.specs.Prelude.{◌≡◌, ℕ, ◌+◌, ◌*◌, ◌<◌, ◌≤◌, List, map, length, slice_index_or}
+use Rattle.std.specs.Prelude.{◌≡◌, ℕ, ◌+◌, ◌*◌, ◌/◌, ◌%◌, ◌<◌, ◌≤◌, List, map, length, slice_index_or, Ok, Err, Result}
 use Rattle.closure.specs.Kinds.{Kind, Meaning, most_places}
 use Rattle.closure.specs.Walks.{Bad, Closure}
-use Rattle.closure.specs.declared.tables.Closing.{Closing}
-use Rattle.closure.specs.declared.tables.Closing.TheVariants.{Closed, BadCycle, WrongSize, OutOfRange}
+use Rattle.closure.specs.declared.tables.Unclosed.{Unclosed}
+use Rattle.closure.specs.declared.tables.Unclosed.TheVariants.{BadCycle, WrongSize, OutOfRange}
 
 -- the weight that stands at p in the list
 abbrev pub weight_at : {W : Type 0} (meaning : Meaning W) → List W → ℕ → meaning.Value
@@ -16,6 +16,14 @@ entry meaning n l i j = weight_at meaning l (i * n + j)
 -- the list holds a table of n places, and they are not too many
 abbrev pub Sized : {W : Type 0} → ℕ → List W → Type 0
 Sized n l = (n ≤ most_places) × (length l ≡ n * n)
+
+-- of the entries before the place p, each is one of those that R allows in its row and column
+abbrev pub FilledBefore : {W : Type 0} → (ℕ → ℕ → W → Type 0) → ℕ → List W → ℕ → Type 0
+FilledBefore {W} R n l p = (k : ℕ) (d : W) → k < p → R (k / n) (k % n) (slice_index_or l k d)
+
+-- each entry of the list is, as a table of n places
+abbrev pub Filled : {W : Type 0} → (ℕ → ℕ → W → Type 0) → ℕ → List W → Type 0
+Filled R n l = FilledBefore R n l (length l)
 
 -- the weights before p may be given: they are within reach of one link
 abbrev pub GivenBefore : {W : Type 0} → Meaning W → List W → ℕ → Type 0
@@ -32,9 +40,9 @@ abbrev pub Near : {W : Type 0} → Kind W → ℕ → (ℕ → ℕ → W) → Ty
 Near kind n u = (i j : ℕ) → i < n → j < n → kind.reach (n + 1) (u i j)
 
 -- the list l, closed as a table of n places, becomes the list m, with this answer
-abbrev pub Closes : {W : Type 0} → Meaning W → ℕ → List W → List W → Closing → Type 0
-Closes meaning n l m WrongSize = (Sized n l → ⊥) × (m ≡ l)
-Closes meaning n l m (OutOfRange p) = Sized n l × FirstBeyond meaning l p × (m ≡ l)
-Closes meaning n l m (BadCycle p) = Sized n l × GivenBefore meaning l (length l) × Bad meaning.kind n (entry meaning n l) p
-Closes meaning n l m Closed =
+abbrev pub Closes : {W : Type 0} → Meaning W → ℕ → List W → List W → Result (Unit {0}) Unclosed → Type 0
+Closes meaning n l m (Ok done) =
     Sized n l × GivenBefore meaning l (length l) × Closure meaning.kind n (entry meaning n l) (entry meaning n m) × Near meaning.kind n (entry meaning n m)
+Closes meaning n l m (Err WrongSize) = (Sized n l → ⊥) × (m ≡ l)
+Closes meaning n l m (Err (OutOfRange p)) = Sized n l × FirstBeyond meaning l p × (m ≡ l)
+Closes meaning n l m (Err (BadCycle p)) = Sized n l × GivenBefore meaning l (length l) × Bad meaning.kind n (entry meaning n l) p

@@ -4,5 +4,4 @@ pub mod Befores
 pub mod Tickings
 pub mod Closings
 pub mod Rounds
-pub mod BeforeLaws
 pub mod TicksLaws

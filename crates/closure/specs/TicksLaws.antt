@@ -1,4 +1,4 @@
--- The laws of the kind ticks.
+-- The laws of the kind ticks. (They stand here, since the laws of an impl cite no file of proofs/.)
 use Rattle.std.specs.Prelude.{◌≡◌, ℕ, ◌+◌, ◌≤◌, ◌⊎◌, ℤ, pos, Some, None, Option, refl}
 use Rattle.std.proofs.Common.{ap, inl, inr, arith}
 use Rattle.std.proofs.lemmas.Int.{ints, by_lt_z}

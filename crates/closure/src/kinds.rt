@@ -2,7 +2,7 @@
 ghost use Rattle.std.specs.Prelude.{◌≡◌, Some, None, Decides, MatchOption};
 ghost use Rattle.closure.specs.Befores.{before_meaning};
 ghost use Rattle.closure.specs.Tickings.{ticks_meaning, ticks_value, WithinTicks};
-ghost use Rattle.closure.specs.BeforeLaws.{before_laws};
+ghost use Rattle.std.proofs.Common.{rules};
 ghost use Rattle.closure.specs.TicksLaws.{ticks_laws};
 
 use crate::weights::Weight;
@@ -17,7 +17,7 @@ pub enum Before {
 impl Weight for Before {
     ghost meaning = { before_meaning };
 
-    ghost laws = { before_laws };
+    ghost laws = { Prim.search rules };
 
     fn unit() -> Before {
         Self::Linked
@@ -62,6 +62,7 @@ impl Ticks {
     pub const NONE: Ticks = Ticks { count: i32::MAX };
 
     /// So many ticks, if that is within 10,000 of 0.
+    // (No TryFrom: its error would say no more than None does.)
     pub fn of(count: i32) -> Option<Ticks>
         ensures { MatchOption result (WithinTicks 10000 count → ⊥) (λ t. WithinTicks 10000 count × (ticks_value t ≡ Some count)) }
     {

@@ -7,7 +7,7 @@ mod tables;
 mod weights;
 
 pub use kinds::{Before, Ticks};
-pub use tables::{Closing, close};
+pub use tables::{Table, Unclosed, close};
 pub use weights::Weight;
 
 #[cfg(test)]
@@ -21,7 +21,7 @@ mod tests {
     #[derive(Drop)]
     struct Case {
         given: [i32; 4],
-        answer: Closing,
+        answer: Result<(), Unclosed>,
         closed: [i32; 4],
     }
 
@@ -38,35 +38,35 @@ mod tests {
         let cases = [
             Case {
                 given: [NO, 7, NO, NO],
-                answer: Closing::Closed,
+                answer: Ok(()),
                 closed: [NO, 7, NO, NO],
             },
             // A cycle of exactly 0.
             Case {
                 given: [NO, 3, -3, NO],
-                answer: Closing::Closed,
+                answer: Ok(()),
                 closed: [0, 3, -3, 0],
             },
             // Cycles of -1, the second by a link from a place to itself.
             Case {
                 given: [0, 3, -4, 0],
-                answer: Closing::BadCycle(1),
+                answer: Err(Unclosed::BadCycle(1)),
                 closed: [0, 0, 0, 0],
             },
             Case {
                 given: [0, NO, NO, -1],
-                answer: Closing::BadCycle(1),
+                answer: Err(Unclosed::BadCycle(1)),
                 closed: [0, 0, 0, 0],
             },
             // Both ends of the range.
             Case {
                 given: [NO, 10_000, 10_000, NO],
-                answer: Closing::Closed,
+                answer: Ok(()),
                 closed: [20_000, 10_000, 10_000, 20_000],
             },
             Case {
                 given: [NO, 10_000, -10_000, NO],
-                answer: Closing::Closed,
+                answer: Ok(()),
                 closed: [0, 10_000, -10_000, 0],
             },
         ];
@@ -74,7 +74,7 @@ mod tests {
             let [a, b, c, d] = case.given;
             let mut table = [ticks(a), ticks(b), ticks(c), ticks(d)];
             assert_eq!(rt; close(&mut table, 2), case.answer);
-            if case.answer == Closing::Closed {
+            if case.answer == Ok(()) {
                 let [t, u, v, w] = table;
                 assert_eq!(rt; [count(t), count(u), count(v), count(w)], case.closed);
             }
@@ -93,17 +93,17 @@ mod tests {
     #[test]
     fn sizes(rt: HostRuntime) {
         let mut large = [Before::Linked; 3025];
-        assert_eq!(rt; close(&mut large, 55), Closing::WrongSize);
+        assert_eq!(rt; close(&mut large, 55), Err(Unclosed::WrongSize));
         let mut empty: [Before; 0] = [];
-        assert_eq!(rt; close(&mut empty, 0), Closing::Closed);
+        assert_eq!(rt; close(&mut empty, 0), Ok(()));
         let mut table = [Ticks::NONE; 2916];
         lay_chain(&mut table);
-        assert_eq!(rt; close(&mut table, 53), Closing::WrongSize);
-        assert_eq!(rt; close(&mut table, 55), Closing::WrongSize);
-        assert_eq!(rt; close(&mut table, 54), Closing::Closed);
+        assert_eq!(rt; close(&mut table, 53), Err(Unclosed::WrongSize));
+        assert_eq!(rt; close(&mut table, 55), Err(Unclosed::WrongSize));
+        assert_eq!(rt; close(&mut table, 54), Ok(()));
         assert_eq!(rt; table[53].count(), Some(530_000));
         // What lies past the range of one link cannot be given.
-        assert_eq!(rt; close(&mut table, 54), Closing::OutOfRange(2));
+        assert_eq!(rt; close(&mut table, 54), Err(Unclosed::OutOfRange(2)));
         assert_eq!(rt; table[53].count(), Some(530_000));
     }
 
@@ -112,11 +112,11 @@ mod tests {
         let yes = Before::Linked;
         let no = Before::Unlinked;
         let mut chain = [no, yes, no, no, no, yes, no, no, no];
-        assert_eq!(rt; close(&mut chain, 3), Closing::Closed);
+        assert_eq!(rt; close(&mut chain, 3), Ok(()));
         assert!(rt; chain[2] == yes && chain[0] == no && chain[6] == no);
         // No order is better than linked, so a cycle shows on the diagonal alone.
         let mut cycle = [no, yes, yes, no];
-        assert_eq!(rt; close(&mut cycle, 2), Closing::Closed);
+        assert_eq!(rt; close(&mut cycle, 2), Ok(()));
         assert!(rt; cycle[0] == yes && cycle[3] == yes);
     }
 }

@@ -1,34 +1,19 @@
 -- The rules of a chart, from its order, its constraints and its drift bounds.
-use Rattle.std.proofs.Common.{◌≡◌, ℕ, ◌+◌, ◌-◌, ◌<◌, ◌≤◌, Bool, ◌||◌, List, map, length, get_or, take, sym, ap, ◌∙◌, subst, inl, inr, arith, length-take}
+use Rattle.std.proofs.Common.{◌≡◌, ℕ, ◌+◌, ◌-◌, ◌<◌, ◌≤◌, Bool, ◌||◌, List, length, sym, ap, subst, inl, inr, arith}
 use native.Mathlib.Decide.{dec_lt}
-use Rattle.std.proofs.lemmas.List.{length-map, get_or-map}
 use Rattle.bookformat.specs.declared.value.Event.{Event}
 use Rattle.bookformat.specs.declared.value.Constraint.{Constraint}
-use Rattle.bookformat.specs.declared.value.Chart.{Chart}
-use Rattle.bookformat.specs.Values.{ChartValue, BookValue, chart_value, held}
-use Rattle.bookformat.specs.Rules.{no_chart, chart, GoodBook}
+use Rattle.bookformat.specs.Values.{ChartValue, BookValue}
+use Rattle.bookformat.specs.Rules.{chart, GoodBook}
 use Rattle.paths.specs.Charts.{event_count}
 use Rattle.paths.specs.Datings.{drift}
 use Rattle.paths.proofs.Full.{working_exists}
 use Rattle.paths.proofs.Facts.{ChartFacts, chart_facts}
 use Rattle.fullchart.specs.declared.FullChart.{FullChart}
-use Rattle.earliest.specs.declared.stops.Stop.{Stop}
+use Rattle.routes.specs.declared.stop.Stop.{Stop}
 use Rattle.earliest.specs.Raising.{Raises}
 use Rattle.earliest.specs.Demands.{Each, BeforeKept, ConstraintKept, Meetable, DriftKept, ChartKept, Placed}
 use Rattle.earliest.proofs.Risen.{weaken, both}
-
--- the chart that is read is the one with the number
-pub chart_is : (b : BookValue) (cs slice : List Chart) (n : ℕ) (c : Chart) → b.charts ≡ map chart_value cs → slice ≡ cs → n < length slice → c ≡ get_or slice n c → chart_value c ≡ chart b n
-chart_is b cs slice n c charts is h read =
-    ap chart_value (read ∙ ap (λ (l : List Chart). get_or l n c) is)
-    ∙ sym (get_or-map chart_value cs n c no_chart (omega (arith, ap length is)))
-    ∙ ap (λ (l : List ChartValue). get_or l n no_chart) (sym charts)
-
-pub few_charts : (n m : ℕ) (xs slice : List Chart) → slice ≡ take m xs → m ≤ 32 → n < length slice → n ≤ 32
-few_charts n m xs slice is h below = omega (arith, ap length is, length-take m xs)
-
-pub charts_count : (b : BookValue) (cs slice : List Chart) → b.charts ≡ map chart_value cs → slice ≡ cs → length slice ≡ length b.charts
-charts_count b cs slice charts is = ap length is ∙ sym (length-map cs chart_value) ∙ sym (ap length charts)
 
 module _ (b : BookValue) (good : GoodBook b) (s : Stop) (room : ℕ) (placed : Placed b s room) where
   abbrev n : ℕ
@@ -63,7 +48,7 @@ module _ (b : BookValue) (good : GoodBook b) (s : Stop) (room : ℕ) (placed : P
   }
 
   abbrev count : ℕ
-  count = length (held f.stations)
+  count = length f.stations.items
 
   count_is : count ≡ event_count b c
   count_is = ap length placed.full.stations

@@ -1,6 +1,5 @@
 pub mod Risen
 pub mod Charted
 pub mod Linked
-pub mod Placing
 pub mod Swept
 pub mod Flat

@@ -1,17 +1,27 @@
 -- Sweeps along a path.
-use Rattle.std.proofs.Common.{◌≡◌, ℕ, zero, suc, ◌+◌, ◌-◌, ◌*◌, ◌^◌, ◌<◌, ◌≤◌, Bool, true, false, ◌||◌, List, length, get_or, sum, sym, refl, ap, subst, mul-le-mul_right, add-mul, add-one, arith, below_more}
+use Rattle.std.proofs.Common.{◌≡◌, ℕ, zero, suc, ◌+◌, ◌-◌, ◌*◌, ◌^◌, ◌<◌, ◌≤◌, Bool, true, false, ◌||◌, List, length, sum, sym, refl, ap, subst, mul-le-mul_right, add-mul, add-one, arith, below_more}
 use Rattle.std.proofs.ByRecursion.{sum_by_le, All-from_get_or}
 use Rattle.std.proofs.lemmas.Bool.{both_ways, or_right}
+use Rattle.bookformat.specs.declared.value.Link.{Link}
 use Rattle.bookformat.specs.Values.{BookValue}
 use Rattle.bookformat.specs.Rules.{chart}
-use Rattle.paths.specs.Paths.{link, chart_at, Path}
-use Rattle.paths.specs.Listing.{events_before}
-use Rattle.earliest.specs.declared.stops.Stop.{Stop}
+use Rattle.paths.specs.Paths.{link_at, chart_at}
+use Rattle.paths.specs.Listing.{events_before, events_of}
+use Rattle.routes.specs.declared.stop.Stop.{Stop}
+use Rattle.routes.proofs.Placing.{count_at, inside as stop_inside}
 use Rattle.earliest.specs.Raising.{Small, Fitting, Rises, Raises}
 use Rattle.earliest.specs.Demands.{Each, Placed, ChartKept, LinkKept}
-use Rattle.earliest.specs.Positions.{At, ChartAt, LinkAt, Entering, Leaving, Crossing, PathKept, Least, Settled}
+use Rattle.routes.specs.Stops.{At}
+use Rattle.earliest.specs.Positions.{ChartAt, LinkAt, Entering, Leaving, Crossing, PathKept, Least, Settled}
 use Rattle.earliest.proofs.Risen.{weaken, then, both}
-use Rattle.earliest.proofs.Placing.{placed_at}
+
+-- the dates of a stop lie within those of the path
+pub placed_at : (b : BookValue) (path : List ℕ) (k : ℕ) (s : Stop) → At b path k s → (room : ℕ) → k ≤ length path → events_of b path ≤ room → Placed b s room
+placed_at b path k s at room inside long = record {
+  exists = at.exists;
+  full = at.full;
+  inside = omega (arith, count_at b path k s at, stop_inside b path k s at inside, ap length at.full.stations);
+}
 
 -- a stop's chart, and a link between two stops, by their positions
 pub chart_at_lem : {l m : List ℕ} {t : Bool} (b : BookValue) (path : List ℕ) (k : ℕ) (s : Stop) → At b path k s → Raises (ChartKept b (chart b s.number) s.first) l m t → Raises (ChartAt b path k) l m t
@@ -29,28 +39,25 @@ module _ (b : BookValue) (path : List ℕ) (k : ℕ) (left entered : Stop) (room
   pub entered_placed : Placed b entered room
   entered_placed = placed_at b path (suc k) entered entered_at room (omega (arith, crossing.inside)) (omega (arith, crossing.long))
 
-  pub link_at : {l m : List ℕ} {t : Bool} (n : ℕ) → n ≡ get_or path k 0 → Raises (LinkKept b (link b n) (chart b left.number) left.first (chart b entered.number) entered.first) l m t → Raises (LinkAt b path k) l m t
-  link_at {l} {m} {t} n is r =
+  pub crossed : {l m : List ℕ} {t : Bool} (w : Link) → w ≡ link_at b path k → Raises (LinkKept b w (chart b left.number) left.first (chart b entered.number) entered.first) l m t → Raises (LinkAt b path k) l m t
+  crossed {l} {m} {t} w is r =
       let x = crossing.left_at in
       let y = entered_at in
-      subst (λ i. Raises (LinkKept b (link b i) (chart_at b path k) (events_before b path k) (chart_at b path (suc k)) (events_before b path (suc k))) l m t) is
-      (subst (λ i. Raises (LinkKept b (link b n) (chart b i) (events_before b path k) (chart_at b path (suc k)) (events_before b path (suc k))) l m t) x.number
-      (subst (λ i. Raises (LinkKept b (link b n) (chart b left.number) i (chart_at b path (suc k)) (events_before b path (suc k))) l m t) x.first
-      (subst (λ i. Raises (LinkKept b (link b n) (chart b left.number) left.first (chart b i) (events_before b path (suc k))) l m t) y.number
-      (subst (λ i. Raises (LinkKept b (link b n) (chart b left.number) left.first (chart b entered.number) i) l m t) y.first r))))
+      subst (λ (v : Link). Raises (LinkKept b v (chart_at b path k) (events_before b path k) (chart_at b path (suc k)) (events_before b path (suc k))) l m t) is
+      (subst (λ i. Raises (LinkKept b w (chart b i) (events_before b path k) (chart_at b path (suc k)) (events_before b path (suc k))) l m t) x.number
+      (subst (λ i. Raises (LinkKept b w (chart b left.number) i (chart_at b path (suc k)) (events_before b path (suc k))) l m t) x.first
+      (subst (λ i. Raises (LinkKept b w (chart b left.number) left.first (chart b i) (events_before b path (suc k))) l m t) y.number
+      (subst (λ i. Raises (LinkKept b w (chart b left.number) left.first (chart b entered.number) i) l m t) y.first r))))
 
-  pub link_exists : Path b path → (n : ℕ) → n ≡ get_or path k 0 → n < length b.links
-  link_exists is_path n is = omega (arith, is_path.exists k crossing.inside)
-
-  pub entering_met : {l m o : List ℕ} {s t : Bool} (n : ℕ) → n ≡ get_or path k 0 → Raises (LinkKept b (link b n) (chart b left.number) left.first (chart b entered.number) entered.first) l m s → Raises (ChartKept b (chart b entered.number) entered.first) m o t → Raises (Entering b path k) l o (s || t)
-  entering_met n is r q = both (link_at n is r) (chart_at_lem b path (suc k) entered entered_at q)
+  pub entering_met : {l m o : List ℕ} {s t : Bool} (w : Link) → w ≡ link_at b path k → Raises (LinkKept b w (chart b left.number) left.first (chart b entered.number) entered.first) l m s → Raises (ChartKept b (chart b entered.number) entered.first) m o t → Raises (Entering b path k) l o (s || t)
+  entering_met w is r q = both (crossed w is r) (chart_at_lem b path (suc k) entered entered_at q)
 
   -- the chart is settled only after a change
-  pub leaving_met : {l m o : List ℕ} {t : Bool} (n : ℕ) → n ≡ get_or path k 0 → Raises (LinkKept b (link b n) (chart b left.number) left.first (chart b entered.number) entered.first) l m true → Raises (ChartKept b (chart b left.number) left.first) m o t → Rises (Leaving b path k) (LinkAt b path k) l o true
-  leaving_met n is r q = weaken (λ z k. k) (λ z k. k.0) (both (link_at n is r) (chart_at_lem b path k left crossing.left_at q))
+  pub leaving_met : {l m o : List ℕ} {t : Bool} (w : Link) → w ≡ link_at b path k → Raises (LinkKept b w (chart b left.number) left.first (chart b entered.number) entered.first) l m true → Raises (ChartKept b (chart b left.number) left.first) m o t → Rises (Leaving b path k) (LinkAt b path k) l o true
+  leaving_met w is r q = weaken (λ z k. k) (λ z k. k.0) (both (crossed w is r) (chart_at_lem b path k left crossing.left_at q))
 
-  pub leaving_kept : {l m : List ℕ} {t : Bool} (n : ℕ) → n ≡ get_or path k 0 → Raises (LinkKept b (link b n) (chart b left.number) left.first (chart b entered.number) entered.first) l m t → Rises (Leaving b path k) (LinkAt b path k) l m t
-  leaving_kept n is r = weaken (λ z k. k.0) (λ z k. k) (link_at n is r)
+  pub leaving_kept : {l m : List ℕ} {t : Bool} (w : Link) → w ≡ link_at b path k → Raises (LinkKept b w (chart b left.number) left.first (chart b entered.number) entered.first) l m t → Rises (Leaving b path k) (LinkAt b path k) l m t
+  leaving_kept w is r = weaken (λ z k. k.0) (λ z k. k) (crossed w is r)
 
 or_assoc : (x y z : Bool) → ((x || y) || z) ≡ (x || (y || z))
 or_assoc true y z = refl

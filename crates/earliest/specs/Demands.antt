@@ -9,7 +9,7 @@ use Rattle.bookformat.specs.Rules.{DirectlyBefore, no_constraint, chart}
 use Rattle.paths.specs.Charts.{event_count}
 use Rattle.paths.specs.Datings.{Within, drift_of, KeepsChart, KeepsLink}
 use Rattle.fullchart.specs.Finds.{FirstOn, LastOn, IsFull}
-use Rattle.earliest.specs.declared.stops.Stop.{Stop}
+use Rattle.routes.specs.declared.stop.Stop.{Stop}
 
 -- Q holds of every number below n
 abbrev pub Each : ℕ → (ℕ → (ℕ → ℕ) → Type 0) → (ℕ → ℕ) → Type 0

@@ -1,4 +1,3 @@
-pub mod Listing
 pub mod Raising
 pub mod Demands
 pub mod Positions

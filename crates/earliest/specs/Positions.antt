@@ -1,33 +1,20 @@
 -- The charts and links along a path, with their dates in one list.
-use Rattle.std.specs.Prelude.{◌≡◌, ℕ, suc, ◌+◌, ◌<◌, ◌≤◌, List, length, slice_index}
+use Rattle.std.specs.Prelude.{◌≡◌, ℕ, suc, ◌+◌, ◌<◌, ◌≤◌, List, length}
 use Rattle.bookformat.specs.Values.{BookValue}
-use Rattle.bookformat.specs.Rules.{chart}
-use Rattle.paths.specs.Paths.{Leaves, link_at, chart_number, chart_at}
+use Rattle.paths.specs.Paths.{link_at, chart_at}
 use Rattle.paths.specs.Datings.{Dating}
-use Rattle.fullchart.specs.Finds.{IsFull}
-use Rattle.earliest.specs.declared.stops.Stop.{Stop}
-use Rattle.earliest.specs.Listing.{offset, total}
+use Rattle.routes.specs.declared.stop.Stop.{Stop}
+use Rattle.paths.specs.Listing.{events_before, events_of}
+use Rattle.routes.specs.Stops.{At}
 use Rattle.earliest.specs.Raising.{date_at, Below}
 use Rattle.earliest.specs.Demands.{ChartKept, LinkKept}
 
--- the first k links of the list are a path, which stands at the chart with a number
-pub record StandsAt (b : BookValue) (path : List ℕ) (k at : ℕ) : Type 0 where
-  pub chart : at ≡ chart_number b path k
-  pub goes_on : (j : ℕ) → j < k → Leaves b (chart_number b path j) (slice_index path j)
-
--- the stop is that of position k
-pub record At (b : BookValue) (path : List ℕ) (k : ℕ) (s : Stop) : Type 0 where
-  pub number : s.number ≡ chart_number b path k
-  pub exists : s.number < length b.charts
-  pub full : IsFull b (chart b s.number) s.full
-  pub first : s.first ≡ offset b path k
-
 -- the rules of the chart at position k, and of the link that leaves it
 abbrev pub ChartAt : BookValue → List ℕ → ℕ → (ℕ → ℕ) → Type 0
-ChartAt b path k z = ChartKept b (chart_at b path k) (offset b path k) z
+ChartAt b path k z = ChartKept b (chart_at b path k) (events_before b path k) z
 
 abbrev pub LinkAt : BookValue → List ℕ → ℕ → (ℕ → ℕ) → Type 0
-LinkAt b path k z = LinkKept b (link_at b path k) (chart_at b path k) (offset b path k) (chart_at b path (suc k)) (offset b path (suc k)) z
+LinkAt b path k z = LinkKept b (link_at b path k) (chart_at b path k) (events_before b path k) (chart_at b path (suc k)) (events_before b path (suc k)) z
 
 -- those of the link that leaves position k, and of the chart that it enters or leaves
 abbrev pub Entering : BookValue → List ℕ → ℕ → (ℕ → ℕ) → Type 0
@@ -41,11 +28,11 @@ pub record Crossing (b : BookValue) (path : List ℕ) (k : ℕ) (left entered : 
   pub inside : k < length path
   pub left_at : At b path k left
   pub entered_at : At b path (k + 1) entered
-  pub long : room ≡ total b path
+  pub long : room ≡ events_of b path
 
 -- all rules
 abbrev pub PathKept : BookValue → List ℕ → (ℕ → ℕ) → Type 0
-PathKept b path z = Dating b path (λ k e. z (offset b path k + e))
+PathKept b path z = Dating b path (λ k e. z (events_before b path k + e))
 
 -- dates above those in the list keep all rules, and fit 32 bits with room for any interval's end
 pub record Ceiling (b : BookValue) (path l : List ℕ) : Type 0 where

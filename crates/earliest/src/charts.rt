@@ -1,16 +1,16 @@
 // Dates that rise where the rules of one chart ask for it.
 ghost use Rattle.std.specs.Prelude.{◌≡◌, ℕ, ◌+◌, ◌-◌, ◌<◌, ◌≤◌, length, nat_lt};
-ghost use Rattle.bookformat.specs.Values.{held, book_value};
-ghost use Rattle.bookformat.specs.Rules.{chart, GoodBook};
+ghost use Rattle.bookformat.specs.Books.{book_value};
+ghost use Rattle.bookformat.specs.Rules.{chart};
 ghost use Rattle.paths.specs.Datings.{drift_of};
 ghost use Rattle.earliest.specs.Raising.{Raises};
 ghost use Rattle.earliest.specs.Demands.{Each, BeforeKept, ConstraintKept, Meetable, DriftKept, ChartKept, Placed};
 
 use crate::raising::{raise, raise_interval};
-use crate::stops::{Stop, chart_of};
 use bookformat::{Book, Constraint, Event};
 use chartorder::is_directly_before;
 use fullchart::FullChart;
+use routes::Stop;
 
 // As many events as a full chart can have.
 const MAX_EVENTS: usize = 48;
@@ -33,6 +33,7 @@ fn raise_later(dates: &mut [u32], first: usize, events: &[Event], e: usize) -> b
     ensures { Raises (Each (length events.now) (BeforeKept events.now first e)) dates.old dates.new result }
 {
     let mut changed = false;
+    // (An index: the date of event f is written while that of e is read.)
     for f in 0..events.len() {
         changed |= raise_before(dates, first, events, e, f);
     }
@@ -45,6 +46,7 @@ fn raise_order(dates: &mut [u32], first: usize, events: &[Event]) -> bool
     ensures { Raises (Each (length events.now) (λ e. Each (length events.now) (BeforeKept events.now first e))) dates.old dates.new result }
 {
     let mut changed = false;
+    // (An index: dates around event e are written while its own is read.)
     for e in 0..events.len() {
         changed |= raise_later(dates, first, events, e);
     }
@@ -77,10 +79,11 @@ fn least_near(book: &Book, full: &FullChart, e: usize, f: usize, date: u32) -> u
 
 // No event is dated further before e than their drift bound.
 fn raise_near(dates: &mut [u32], first: usize, book: &Book, full: &FullChart, e: usize) -> bool
-    requires { (e < length (held full.now.stations)) × (first + length (held full.now.stations) ≤ length dates.old) }
-    ensures { Raises (Each (length (held full.now.stations)) (DriftKept (book_value book.now) full.now.working first e)) dates.old dates.new result }
+    requires { (e < length full.now.stations.items) × (first + length full.now.stations.items ≤ length dates.old) }
+    ensures { Raises (Each (length full.now.stations.items) (DriftKept (book_value book.now) full.now.working first e)) dates.old dates.new result }
 {
     let mut changed = false;
+    // (An index: the date of event f is written while that of e is read.)
     for f in 0..full.count() {
         let date = least_near(book, full, e, f, dates[first + e]);
         changed |= raise(dates, first + f, date);
@@ -90,10 +93,11 @@ fn raise_near(dates: &mut [u32], first: usize, book: &Book, full: &FullChart, e:
 
 // The drift bounds between all events of the full chart.
 fn raise_drift(dates: &mut [u32], first: usize, book: &Book, full: &FullChart) -> bool
-    requires { first + length (held full.now.stations) ≤ length dates.old }
-    ensures { Raises (Each (length (held full.now.stations)) (λ e. Each (length (held full.now.stations)) (DriftKept (book_value book.now) full.now.working first e))) dates.old dates.new result }
+    requires { first + length full.now.stations.items ≤ length dates.old }
+    ensures { Raises (Each (length full.now.stations.items) (λ e. Each (length full.now.stations.items) (DriftKept (book_value book.now) full.now.working first e))) dates.old dates.new result }
 {
     let mut changed = false;
+    // (An index: dates around event e are written while its own is read.)
     for e in 0..full.count() {
         changed |= raise_near(dates, first, book, full, e);
     }
@@ -102,26 +106,25 @@ fn raise_drift(dates: &mut [u32], first: usize, book: &Book, full: &FullChart) -
 
 // All rules of a chart, once each.
 fn raise_chart(dates: &mut [u32], book: &Book, stop: &Stop) -> bool
-    requires good { GoodBook (book_value book.now) }
-    requires placed { Placed (book_value book.now) stop.now (length dates.old) }
+    requires { Placed (book_value book.now) stop.now (length dates.old) }
     ensures { Raises (ChartKept (book_value book.now) (chart (book_value book.now) stop.now.number) stop.now.first) dates.old dates.new result }
 {
-    let chart = chart_of(book, stop.number);
-    let mut changed = raise_order(dates, stop.first, chart.events.as_slice());
-    changed |= raise_constraints(dates, stop.first, chart.constraints.as_slice());
+    let chart = book.chart(stop.number);
+    let mut changed = raise_order(dates, stop.first, &chart.events);
+    changed |= raise_constraints(dates, stop.first, &chart.constraints);
     changed |= raise_drift(dates, stop.first, book, &stop.full);
     changed
 }
 
 // The same until nothing moves: a date that can be kept is reached in as many rounds as there are events.
 pub fn settle(dates: &mut [u32], book: &Book, stop: &Stop) -> bool
-    requires good { GoodBook (book_value book.now) }
-    requires placed { Placed (book_value book.now) stop.now (length dates.old) }
+    requires { Placed (book_value book.now) stop.now (length dates.old) }
     ensures { Raises (ChartKept (book_value book.now) (chart (book_value book.now) stop.now.number) stop.now.first) dates.old dates.new result }
 {
     if !raise_chart(dates, book, stop) {
         return false;
     }
+    // (So many rounds, none of which needs its number.)
     for _ in 0..MAX_EVENTS {
         if !raise_chart(dates, book, stop) {
             return true;

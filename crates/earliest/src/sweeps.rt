@@ -1,105 +1,82 @@
 // Sweeps along a path.
 ghost use Rattle.std.specs.Prelude.{◌≡◌, ℕ, ◌+◌, ◌*◌, ◌<◌, ◌≤◌, false, length, Decides};
-ghost use Rattle.bookformat.specs.Values.{book_value};
-ghost use Rattle.bookformat.specs.Rules.{GoodBook};
-ghost use Rattle.paths.specs.Paths.{Path};
+ghost use Rattle.bookformat.specs.Books.{book_value};
 ghost use Rattle.paths.specs.Datings.{Datable};
 ghost use Rattle.paths.specs.Listing.{events_of};
 ghost use Rattle.earliest.specs.Raising.{date_at, Fitting, Rises, Raises};
 ghost use Rattle.earliest.specs.Demands.{Each};
-ghost use Rattle.earliest.specs.Positions.{At, LinkAt, Entering, Leaving, Crossing, PathKept, Least, Settled};
+ghost use Rattle.routes.specs.Stops.{At};
+ghost use Rattle.earliest.specs.Positions.{LinkAt, Entering, Leaving, Crossing, PathKept, Least, Settled};
 
 use crate::charts::settle;
 use crate::links::raise_link;
-use crate::stops::{Stop, after, before, start};
-use bookformat::Book;
+use routes::{BookPath, Stop};
 
 // No interval of a book asks for more ticks.
 const MAX_LOWER: u32 = 10_000;
 
 // The link that leaves a position, then the chart that it enters.
-fn enter(
-    dates: &mut [u32],
-    book: &Book,
-    links: &[u8],
-    position: usize,
-    left: &Stop,
-    entered: &Stop,
-) -> bool
-    requires good { GoodBook (book_value book.now) }
-    requires path { Path (book_value book.now) links.now }
-    requires crossing { Crossing (book_value book.now) links.now position left.now entered.now (length dates.old) }
-    ensures { Raises (Entering (book_value book.now) links.now position) dates.old dates.new result }
+fn enter(dates: &mut [u32], path: &BookPath, position: usize, left: &Stop, entered: &Stop) -> bool
+    requires { Crossing (book_value path.now.book.now) path.now.links.now position left.now entered.now (length dates.old) }
+    ensures { Raises (Entering (book_value path.now.book.now) path.now.links.now position) dates.old dates.new result }
 {
-    let mut changed = raise_link(dates, book, usize::from(links[position]), left, entered);
-    changed |= settle(dates, book, entered);
+    let mut changed = raise_link(dates, path.book, path.link(position), left, entered);
+    changed |= settle(dates, path.book, entered);
     changed
 }
 
 // The link that leaves a position, and if that moves a date, then the chart there.
 fn turn_back(
     dates: &mut [u32],
-    book: &Book,
-    links: &[u8],
+    path: &BookPath,
     position: usize,
     left: &Stop,
     entered: &Stop,
 ) -> bool
-    requires good { GoodBook (book_value book.now) }
-    requires path { Path (book_value book.now) links.now }
-    requires crossing { Crossing (book_value book.now) links.now position left.now entered.now (length dates.old) }
-    ensures { Rises (Leaving (book_value book.now) links.now position) (LinkAt (book_value book.now) links.now position) dates.old dates.new result }
+    requires { Crossing (book_value path.now.book.now) path.now.links.now position left.now entered.now (length dates.old) }
+    ensures { Rises (Leaving (book_value path.now.book.now) path.now.links.now position) (LinkAt (book_value path.now.book.now) path.now.links.now position) dates.old dates.new result }
 {
-    if !raise_link(dates, book, usize::from(links[position]), left, entered) {
+    if !raise_link(dates, path.book, path.link(position), left, entered) {
         return false;
     }
-    settle(dates, book, left);
+    settle(dates, path.book, left);
     true
 }
 
 // No event of the path has a later date in its earliest dating.
-fn latest(book: &Book, links: &[u8]) -> u32
-    requires good { GoodBook (book_value book.now) }
-    requires few { length links.now ≤ 4095 }
-    ensures { result ≡ length links.now * (10000 + (book_value book.now).far) + (book_value book.now).far }
+fn latest(path: &BookPath) -> u32
+    ensures { result ≡ length path.now.links.now * (10000 + (book_value path.now.book.now).far) + (book_value path.now.book.now).far }
 {
-    let far = u32::from(book.far);
-    links.len() as u32 * (MAX_LOWER + far) + far
+    let far = u32::from(path.book.far);
+    path.links.len() as u32 * (MAX_LOWER + far) + far
 }
 
 // Is any of the dates later than this?
 fn is_past(dates: &[u32], latest: u32) -> bool
     ensures { Decides result ((k : ℕ) × (k < length dates.now) × (latest < date_at dates.now k)) }
 {
-    for date in dates {
-        if *date > latest {
-            return true;
-        }
-    }
-    false
+    dates.iter().any(|date| *date > latest)
 }
 
 // Goes forward from the first stop. Where a link moves the chart that it leaves, it turns back,
 // at most so many positions behind the furthest one that it has reached. It gives up at a date past
 // all earliest ones: without a dating, charts can move each other on and on.
-fn walk(dates: &mut [u32], book: &Book, links: &[u8], first: Stop, window: usize) -> bool
-    requires good { GoodBook (book_value book.now) }
-    requires path { Path (book_value book.now) links.now }
-    requires few { length links.now ≤ 4095 }
-    requires long { length dates.old ≡ events_of (book_value book.now) links.now }
-    requires at { At (book_value book.now) links.now 0 first }
+fn walk(dates: &mut [u32], path: &BookPath, first: Stop, window: usize) -> bool
+    requires long { length dates.old ≡ events_of (book_value path.now.book.now) path.now.links.now }
+    requires at { At (book_value path.now.book.now) path.now.links.now 0 first }
     requires fits { Fitting dates.old }
-    ensures { Rises (PathKept (book_value book.now) links.now) (Each (length links.now) (Entering (book_value book.now) links.now)) dates.old dates.new result }
+    ensures { Rises (PathKept (book_value path.now.book.now) path.now.links.now) (Each (length path.now.links.now) (Entering (book_value path.now.book.now) path.now.links.now)) dates.old dates.new result }
 {
-    let latest = latest(book, links);
+    let latest = latest(path);
     let mut changed = false;
     let mut here = first;
     let mut position: usize = 0;
     let mut reached: usize = 0;
-    while position < links.len() {
-        let next = after(book, links, position, &here);
-        changed |= enter(dates, book, links, position, &here, &next);
-        let moved = turn_back(dates, book, links, position, &here, &next);
+    // (A `while`: the walk turns back, so no range or iterator runs along its positions.)
+    while position < path.links.len() {
+        let next = path.stop_after(position, &here);
+        changed |= enter(dates, path, position, &here, &next);
+        let moved = turn_back(dates, path, position, &here, &next);
         changed |= moved;
         if !moved {
             here = next;
@@ -108,7 +85,7 @@ fn walk(dates: &mut [u32], book: &Book, links: &[u8], first: Stop, window: usize
         } else if dates[here.first] > latest {
             return changed;
         } else if position > 0 && reached - position < window {
-            here = before(book, links, position, &here);
+            here = path.stop_before(position, &here);
             position -= 1;
         }
     }
@@ -116,34 +93,29 @@ fn walk(dates: &mut [u32], book: &Book, links: &[u8], first: Stop, window: usize
 }
 
 // Forward along the whole path.
-fn sweep_forward(dates: &mut [u32], book: &Book, links: &[u8], window: usize) -> bool
-    requires good { GoodBook (book_value book.now) }
-    requires path { Path (book_value book.now) links.now }
-    requires few { length links.now ≤ 4095 }
-    requires long { length dates.old ≡ events_of (book_value book.now) links.now }
+fn sweep_forward(dates: &mut [u32], path: &BookPath, window: usize) -> bool
+    requires long { length dates.old ≡ events_of (book_value path.now.book.now) path.now.links.now }
     requires fits { Fitting dates.old }
-    ensures raises { Raises (PathKept (book_value book.now) links.now) dates.old dates.new result }
-    ensures settled { result ≡ false → Datable (book_value book.now) links.now → Least (book_value book.now) links.now dates.old → Settled (book_value book.now) links.now dates.new }
+    ensures raises { Raises (PathKept (book_value path.now.book.now) path.now.links.now) dates.old dates.new result }
+    ensures settled { result ≡ false → Datable (book_value path.now.book.now) path.now.links.now → Least (book_value path.now.book.now) path.now.links.now dates.old → Settled (book_value path.now.book.now) path.now.links.now dates.new }
 {
-    let first = start(book, links);
-    let mut changed = settle(dates, book, &first);
-    changed |= walk(dates, book, links, first, window);
+    let first = path.first_stop();
+    let mut changed = settle(dates, path.book, &first);
+    changed |= walk(dates, path, first, window);
     changed
 }
 
 // Back along the whole path, from its last stop.
-fn sweep_back(dates: &mut [u32], book: &Book, links: &[u8], last: Stop) -> bool
-    requires good { GoodBook (book_value book.now) }
-    requires path { Path (book_value book.now) links.now }
-    requires long { length dates.old ≡ events_of (book_value book.now) links.now }
-    requires at { At (book_value book.now) links.now (length links.now) last }
-    ensures { Rises (PathKept (book_value book.now) links.now) (λ _. Unit {0}) dates.old dates.new result }
+fn sweep_back(dates: &mut [u32], path: &BookPath) -> bool
+    requires { length dates.old ≡ events_of (book_value path.now.book.now) path.now.links.now }
+    ensures { Rises (PathKept (book_value path.now.book.now) path.now.links.now) (λ _. Unit {0}) dates.old dates.new result }
 {
     let mut changed = false;
-    let mut here = last;
-    for position in (0..links.len()).rev() {
-        let left = before(book, links, position + 1, &here);
-        changed |= turn_back(dates, book, links, position, &left, &here);
+    let mut here = path.stop_to(path.links.len(), dates.len());
+    // (By positions, from the last one on: each stop is made from the one behind it.)
+    for position in (0..path.links.len()).rev() {
+        let left = path.stop_before(position + 1, &here);
+        changed |= turn_back(dates, path, position, &left, &here);
         here = left;
     }
     changed
@@ -153,23 +125,20 @@ fn sweep_back(dates: &mut [u32], book: &Book, links: &[u8], last: Stop) -> bool
 // all earliest dates, so that there is no dating. It goes forward and back in turn, and each time
 // forward with a wider window: so a link that moves many charts before it is met by going back once,
 // and charts that move each other in turn by a small window.
-pub fn rise(dates: &mut [u32], book: &Book, links: &[u8], last: Stop)
-    requires good { GoodBook (book_value book.now) }
-    requires path { Path (book_value book.now) links.now }
-    requires few { length links.now ≤ 4095 }
-    requires long { length dates.old ≡ events_of (book_value book.now) links.now }
-    requires at { At (book_value book.now) links.now (length links.now) last }
+pub fn rise(dates: &mut [u32], path: &BookPath)
+    requires long { length dates.old ≡ events_of (book_value path.now.book.now) path.now.links.now }
     requires fits { Fitting dates.old }
-    requires least { Least (book_value book.now) links.now dates.old }
-    ensures { Datable (book_value book.now) links.now → Settled (book_value book.now) links.now dates.new }
+    requires least { Least (book_value path.now.book.now) path.now.links.now dates.old }
+    ensures { Datable (book_value path.now.book.now) path.now.links.now → Settled (book_value path.now.book.now) path.now.links.now dates.new }
 {
-    let latest = latest(book, links);
+    let latest = latest(path);
     let mut window: usize = 0;
-    while sweep_forward(dates, book, links, window) {
+    // (Until a sweep moves nothing: no count of turns is known before.)
+    while sweep_forward(dates, path, window) {
         if is_past(dates, latest) {
             return;
         }
-        sweep_back(dates, book, links, last);
-        window = links.len().min(2 * window + 1);
+        sweep_back(dates, path);
+        window = path.links.len().min(2 * window + 1);
     }
 }

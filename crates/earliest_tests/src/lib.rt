@@ -5,45 +5,26 @@
 mod tests {
     use bookformat::Fault;
     use chartbook::read_book;
-    use earliest::{earliest_dates_if_datable, event_count, is_path};
+    use earliest::earliest_dates_if_datable;
+    use routes::BookPath;
     use std::test::Fail;
-
-    // Two stations, near and far 3. Chart 0 has a message of 3 ticks; charts 1 and 2 have a message.
-    // Links 0 -> 1 and 1 -> 1 take 2 and 1 ticks, link 1 -> 2 takes none.
-    const COUNTDOWN: &[u8; 148] = b"TCM\x00\x01\x02\x03\x00\x03\x00\x03\x00\x03\
-        \x02\x01\x00\x00\x21\x01\x01\x3f\x00\x00\x01\x00\x03\x00\x03\
-        \x02\x00\x00\x00\x21\x01\x01\x3f\x00\
-        \x02\x00\x01\x01\x21\x01\x00\x3f\x00\
-        \x00\x01\x00\x02\x00\x02\x00\x01\x00\x01\
-        \x00\x00\xff\xff\x00\x00\xff\xff\x00\x00\xff\xff\x00\x00\xff\xff\x00\x00\xff\xff\x00\x00\xff\xff\
-        \x01\x01\x00\x02\x00\x02\x00\x01\x00\x01\
-        \x00\x00\xff\xff\x00\x00\xff\xff\x00\x00\xff\xff\x00\x00\xff\xff\x00\x00\xff\xff\x00\x00\xff\xff\
-        \x01\x02\x00\x00\x00\x00\x00\x00\x00\x00\
-        \x00\x00\xff\xff\x00\x00\xff\xff\x00\x00\xff\xff\x00\x00\xff\xff\x00\x00\xff\xff\x00\x00\xff\xff";
-
-    // Three stations, near and far 3. Its one chart has a message of 1 to 3 ticks from station 0 to 1.
-    const ONE_MESSAGE: &[u8; 28] = b"TCM\x00\x01\x03\x01\x00\x00\x00\x03\x00\x03\
-        \x02\x01\x01\x00\x21\x01\x01\x3f\x00\x00\x01\x00\x01\x00\x03";
-
-    // The same with near 0: its chart cannot be dated.
-    const ONE_MESSAGE_NEAR_0: &[u8; 28] = b"TCM\x00\x01\x03\x01\x00\x00\x00\x00\x00\x03\
-        \x02\x01\x01\x00\x21\x01\x01\x3f\x00\x00\x01\x00\x01\x00\x03";
+    use worked_books::{COUNTDOWN, ONE_MESSAGE, ONE_MESSAGE_NEAR_0};
 
     fn leads(bytes: &[u8], links: &[u8]) -> Result<bool, Fault> {
         let book = read_book(bytes)?;
-        Ok(is_path(&book, links))
+        Ok(BookPath::of(&book, links).is_some())
     }
 
     // Writes dates to the front of the space, and says how many; none where the links are no path.
     fn dated(bytes: &[u8], links: &[u8], space: &mut [u32]) -> Result<Option<usize>, Fault> {
         let book = read_book(bytes)?;
-        if links.len() > 4095 || !is_path(&book, links) {
+        let Some(path) = BookPath::of(&book, links) else {
+            return Ok(None);
+        };
+        if path.event_count() > space.len() {
             return Ok(None);
         }
-        if event_count(&book, links) > space.len() {
-            return Ok(None);
-        }
-        Ok(Some(earliest_dates_if_datable(&book, links, space)))
+        Ok(Some(earliest_dates_if_datable(&path, space)))
     }
 
     #[test]

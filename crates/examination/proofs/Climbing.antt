@@ -1,7 +1,7 @@
 -- Up the chain of rows by which a path came.
-use Rattle.std.proofs.Common.{◌≡◌, ℕ, suc, ◌+◌, ◌-◌, ◌<◌, ◌≤◌, List, ◌∷◌, length, get_or, take, drop, set, Some, None, Option, sym, refl, ap, ◌∙◌, subst, arith, length-take-le, take_all, drop-cons, get_or-take, take-take}
+use Rattle.std.proofs.Common.{◌≡◌, ℕ, suc, ◌+◌, ◌-◌, ◌<◌, ◌≤◌, List, [], ◌∷◌, ◌++◌, length, get_or, take, drop, reverse, Some, None, Option, sym, refl, ap, ◌∙◌, subst, arith, length-append, length-take-le, take_all, drop-cons, get_or-take, take-take}
 use native.Mathlib.Decide.{dec_lt}
-use Rattle.std.proofs.lemmas.List.{drop_all, drop-set}
+use Rattle.std.proofs.lemmas.List.{drop_all, reverse-append}
 use Rattle.bookformat.specs.Values.{BookValue}
 use Rattle.register.specs.declared.row.Origin.{Origin}
 use Rattle.register.specs.declared.row.Row.{Row}
@@ -93,19 +93,19 @@ module _ (rows : List Row) (k n at : ℕ) (o : Option Origin) (is : o ≡ (row_a
 abbrev pub Within : List Row → ℕ → ℕ → Type 0
 Within rows k n = (b : BookValue) (path : List ℕ) → TrailTo b rows k path → n ≤ length path
 
--- the last links of the path, from a place in the storage on
-pub record Filled (rows : List Row) (k start : ℕ) (links : List ℕ) : Type 0 where
-  pub within : Within rows k (4095 - start)
-  pub are : (b : BookValue) (path : List ℕ) → TrailTo b rows k path → drop start links ≡ drop (length path - (4095 - start)) path
+-- the last links of the path, the last one first
+pub record Gathered (rows : List Row) (k : ℕ) (links : List ℕ) : Type 0 where
+  pub within : Within rows k (length links)
+  pub are : (b : BookValue) (path : List ℕ) → TrailTo b rows k path → reverse links ≡ drop (length path - length links) path
 
 -- above the top nothing is said
 pub climbs_stays : (rows : List Row) (k n at : ℕ) (o : Option Origin) → o ≡ (row_at rows at).origin → ClimbsTo rows k n at → o ≡ None → ClimbsTo rows k (n + 1) at
 climbs_stays rows k n at o is climbs none b path t h = let e = climbs_stop rows k n at o is climbs none b path t (omega arith) in absurd (omega arith)
 
-pub filled_none : (rows : List Row) (k : ℕ) (links : List ℕ) → length links ≤ 4095 → Filled rows k 4095 links
-filled_none rows k links h = record {
-  within = λ b path t. omega arith;
-  are = λ b path t. drop_all 4095 links h ∙ sym (drop_all (length path - 0) path (omega arith));
+pub gathered_none : (rows : List Row) (k : ℕ) (links : List ℕ) → links ≡ [] → Gathered rows k links
+gathered_none rows k links e = record {
+  within = λ b path t. omega (arith, ap length e);
+  are = λ b path t. ap reverse e ∙ sym (drop_all (length path - length links) path (omega (arith, ap length e)));
 }
 
 drop_path : (path : List ℕ) (n m : ℕ) → n + 1 ≤ length path → m ≡ length path - (n + 1) → drop m path ≡ get_or path m 0 ∷ drop (length path - n) path
@@ -113,31 +113,36 @@ drop_path path n m h e =
     let next : suc m ≡ length path - n = omega arith in
     drop-cons path m 0 (omega arith) ∙ ap (λ (j : ℕ). get_or path m 0 ∷ drop j path) next
 
-module _ (rows : List Row) (k start at : ℕ) (o : Option Origin) (links : List ℕ) (is : o ≡ (row_at rows at).origin) (climbs : ClimbsTo rows k (4095 - start) at) (filled : Filled rows k start links) where
-  pub filled_more : (x : Origin) → o ≡ Some x → 0 < start → start ≤ 4095 → length links ≡ 4095 → Filled rows k (start - 1) (set links (start - 1) x.link)
-  filled_more x some low high long = record {
-    within = λ b path t. let h = climbs_further rows k (4095 - start) at o is climbs x some b path t (filled.within b path t) in omega arith;
+module _ (rows : List Row) (k at : ℕ) (o : Option Origin) (links : List ℕ) (is : o ≡ (row_at rows at).origin) (climbs : ClimbsTo rows k (length links) at) (gathered : Gathered rows k links) where
+  pub gathered_more : (x : Origin) (more : List ℕ) → o ≡ Some x → more ≡ links ++ x.link ∷ [] → Gathered rows k more
+  gathered_more x more some pushed = record {
+    within = λ b path t. let h = further b path t in omega (arith, longer);
     are = λ b path t.
-        let h = climbs_further rows k (4095 - start) at o is climbs x some b path t (filled.within b path t) in
-        let here : x.link ≡ get_or path (length path - (4095 - (start - 1))) 0 = climbs_link rows k (4095 - start) at o is climbs x some b path t h ∙ ap (λ (j : ℕ). get_or path j 0) (omega arith) in
-        let back : start - 1 + 1 ≡ start = omega arith in
-        drop-set links (start - 1) x.link (omega arith)
-        ∙ ap (λ (j : ℕ). x.link ∷ drop j links) back
-        ∙ ap (λ (l : List ℕ). x.link ∷ l) (filled.are b path t)
-        ∙ ap (λ (j : ℕ). j ∷ drop (length path - (4095 - start)) path) here
-        ∙ sym (drop_path path (4095 - start) (length path - (4095 - (start - 1))) h (omega arith));
+        let h = further b path t in
+        let m = length path - length more in
+        let here : x.link ≡ get_or path m 0 = climbs_link rows k (length links) at o is climbs x some b path t h ∙ ap (λ (j : ℕ). get_or path j 0) (omega (arith, longer)) in
+        ap reverse pushed ∙ reverse-append links (x.link ∷ [])
+        ∙ ap (λ (l : List ℕ). x.link ∷ l) (gathered.are b path t)
+        ∙ ap (λ (j : ℕ). j ∷ drop (length path - length links) path) here
+        ∙ sym (drop_path path (length links) m h (omega (arith, longer)));
   }
+    where
+      longer : length more ≡ length links + 1
+      longer = ap length pushed ∙ length-append links (x.link ∷ [])
 
-  pub filled_top : o ≡ None → LinksTo rows k (drop start links)
-  filled_top none b path t =
-      let e = climbs_stop rows k (4095 - start) at o is climbs none b path t (filled.within b path t) in
-      let all : length path - (4095 - start) ≡ 0 = omega arith in
-      filled.are b path t ∙ ap (λ (j : ℕ). drop j path) all
+      further : (b : BookValue) (path : List ℕ) → TrailTo b rows k path → length links + 1 ≤ length path
+      further b path t = climbs_further rows k (length links) at o is climbs x some b path t (gathered.within b path t)
 
--- the storage is full: no path through so many rows is longer
-pub filled_whole : (rows : List Row) (k start : ℕ) (links : List ℕ) → Filled rows k start links → start ≤ 0 → length rows ≤ 4096 → LinksTo rows k (drop start links)
-filled_whole rows k start links filled low few b path t =
-    let within = filled.within b path t in
+  pub gathered_top : o ≡ None → LinksTo rows k (reverse links)
+  gathered_top none b path t =
+      let e = climbs_stop rows k (length links) at o is climbs none b path t (gathered.within b path t) in
+      let all : length path - length links ≡ 0 = omega arith in
+      gathered.are b path t ∙ ap (λ (j : ℕ). drop j path) all
+
+-- so many links: no path through so many rows has more
+pub gathered_whole : (rows : List Row) (k : ℕ) (links : List ℕ) → Gathered rows k links → 4095 ≤ length links → length rows ≤ 4096 → LinksTo rows k (reverse links)
+gathered_whole rows k links gathered many few b path t =
+    let within = gathered.within b path t in
     let most = below b rows k path t in
-    let all : length path - (4095 - start) ≡ 0 = omega arith in
-    filled.are b path t ∙ ap (λ (j : ℕ). drop j path) all
+    let all : length path - length links ≡ 0 = omega arith in
+    gathered.are b path t ∙ ap (λ (j : ℕ). drop j path) all

@@ -21,9 +21,6 @@ goal_runs (Runs j) k e = cc
 goal_runs Empty k e = cc
 goal_runs Spent k e = cc
 
-pub runs_begun : (f : Phase) (k : ℕ) → f ≡ Runs k → f ≡ Idle → ⊥
-runs_begun f k e z = let w : ◌≡◌ {A = ℕ} 0 1 = cc in omega arith
-
 -- verdict
 
 pub charts_runs : (b : BookValue) (rows : List Row) (f : Phase) (k n : ℕ) → f ≡ Runs k → CountsTo rows k n → ChartsIn b rows f n

@@ -1,5 +1,4 @@
 pub mod Views
-pub mod Sound
 pub mod Chains
 pub mod Routes
 pub mod Conduct

@@ -1,7 +1,7 @@
 -- What an examination and its register hold.
 use Rattle.std.specs.Prelude.{List}
-use Rattle.bookformat.specs.declared.value.Book.{Book}
-use Rattle.bookformat.specs.Values.{book_value}
+use Rattle.bookformat.specs.declared.book.Book.{Book}
+use Rattle.bookformat.specs.Books.{book_value}
 use Rattle.register.specs.declared.row.Row.{Row}
 use Rattle.history.specs.declared.phase.Phase.{Phase}
 use Rattle.history.specs.Views.{View}

@@ -1,14 +1,15 @@
 // Along the chain of rows by which a path came.
-ghost use Rattle.std.specs.Prelude.{◌≡◌, ◌≤◌, length, drop};
+ghost use Rattle.std.specs.Prelude.{◌≡◌, reverse};
 ghost use Rattle.register.specs.Meaning.{row_at};
 ghost use Rattle.examination.specs.Chains.{CountsTo, ClimbsTo, LegAt, LinksTo};
 
+use arrayvec::ArrayVec;
 use history::Leg;
 use register::{Origin, Register};
 use walk::row_at;
 
 // A path through as many rows as a register can hold.
-const MOST_LINKS: usize = 4095;
+pub const MOST_LINKS: usize = 4095;
 
 /// Where the row at a place came from.
 pub fn origin_at<R: Register>(register: &R, place: u16) -> Option<Origin>
@@ -22,6 +23,7 @@ pub fn charts_to<R: Register>(register: &R, place: u16) -> usize
     ensures { CountsTo (R.rows register.now) place result }
 {
     let mut at = place;
+    // (As many turns as there are rows: those that something else wrote may lead round.)
     for climbed in 0..register.count() {
         match origin_at(register, at) {
             Some(origin) => at = origin.row,
@@ -36,6 +38,7 @@ pub fn climb<R: Register>(register: &R, place: u16, levels: usize) -> u16
     ensures { ClimbsTo (R.rows register.now) place levels result }
 {
     let mut at = place;
+    // (So many levels, none of which needs its number.)
     for _climbed in 0..levels {
         if let Some(origin) = origin_at(register, at) {
             at = origin.row;
@@ -49,48 +52,34 @@ pub fn leg_of<R: Register>(register: &R, place: u16) -> Leg
     ensures { LegAt (R.rows register.now) place result }
 {
     let row = row_at(register, place);
-    let link = match row.origin {
-        Some(origin) => Some(origin.link),
-        None => None,
-    };
     Leg {
         chart: row.class.chart,
-        link,
+        link: row.origin.map(|origin| origin.link),
     }
 }
 
-/// The links of a path, at the end of its storage.
-#[derive(Drop)]
-pub struct Route {
-    links: [u8; MOST_LINKS],
-    start: usize,
-    ghost within: { start ≤ 4095 },
+/// The links by which the chain of rows leads down to a row, the last one first.
+fn links_up<R: Register>(register: &R, place: u16) -> ArrayVec<u8, MOST_LINKS>
+    ensures { LinksTo (R.rows register.now) place (reverse result.items) }
+{
+    let mut links = ArrayVec::new();
+    let mut at = place;
+    // (As many turns as there can be links: rows that something else wrote may lead round.)
+    for _climbed in 0..MOST_LINKS {
+        let Some(origin) = origin_at(register, at) else {
+            break;
+        };
+        links.push(origin.link);
+        at = origin.row;
+    }
+    links
 }
 
-impl Route {
-    /// The links of the path to a row.
-    pub fn to<R: Register>(register: &R, place: u16) -> Route
-        ensures { LinksTo (R.rows register.now) place (drop result.start result.links) }
-    {
-        let mut links = [0; MOST_LINKS];
-        let mut start = MOST_LINKS;
-        let mut at = place;
-        while start > 0 {
-            let Some(origin) = origin_at(register, at) else {
-                break;
-            };
-            start -= 1;
-            links[start] = origin.link;
-            at = origin.row;
-        }
-        Route { links, start }
-    }
-
-    pub fn as_slice(&self) -> &[u8]
-        ensures links { result.now ≡ drop self.now.start self.now.links }
-        ensures few { length result.now ≤ 4095 }
-    {
-        let all = &self.links[..];
-        &all[self.start..]
-    }
+/// The links of the path to a row.
+pub fn links_to<R: Register>(register: &R, place: u16) -> ArrayVec<u8, MOST_LINKS>
+    ensures { LinksTo (R.rows register.now) place result.items }
+{
+    let mut links = links_up(register, place);
+    links.reverse();
+    links
 }

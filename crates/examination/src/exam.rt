@@ -1,20 +1,21 @@
 // The examination, and the five calls on it.
 ghost use Rattle.std.specs.Prelude.{◌≡◌, ◌-◌, ◌<◌, ◌≤◌, length};
-ghost use Rattle.bookformat.specs.Rules.{GoodBook};
-ghost use Rattle.bookformat.specs.Values.{book_value};
-ghost use Rattle.history.specs.Views.{state_of};
+ghost use Rattle.bookformat.specs.Books.{book_value};
+ghost use Rattle.history.specs.Views.{phase_of};
+ghost use Rattle.walk.specs.Trying.{NextExists};
 ghost use Rattle.history.specs.Meanings.{BeginMeans, AdvanceMeans, VerdictMeans, LegMeans, DatesMeans};
 ghost use Rattle.examination.specs.Views.{view_of};
-ghost use Rattle.examination.specs.Sound.{Sound};
 ghost use Rattle.examination.specs.Chains.{CountsIn, GoalIn, DatedLinks};
 ghost use Rattle.examination.specs.Routes.{RouteIn};
 
-use crate::chain::{Route, charts_to, climb, leg_of};
-use bookformat::{Book, Bounded, Chart, Constraint, Event, Fault, Interval, Kind, Link};
+use crate::chain::{MOST_LINKS, charts_to, climb, leg_of, links_to};
+use arrayvec::ArrayVec;
+use bookformat::{Book, Fault};
 use chartbook::read_book;
-use earliest::{earliest_dates_if_datable, event_count, is_path};
+use earliest::earliest_dates_if_datable;
 use history::{Leg, Phase, State, Verdict};
 use register::Register;
+use routes::BookPath;
 use walk::{Unwatched, Watch, begin_walk, go_on};
 
 /// Looks for a final path of a book that can be dated, step by step. Its rows stand in a register, which the caller holds.
@@ -22,56 +23,7 @@ use walk::{Unwatched, Watch, begin_walk, go_on};
 pub struct Examination {
     book: Book,
     phase: Phase,
-    ghost sound: { ∥ Sound (book_value book) phase ∥₁ },
-}
-
-/// A book without charts, which stands where none has been taken.
-fn blank_book() -> Book {
-    let interval = Interval {
-        lower: 0,
-        upper: None,
-    };
-    let event = Event {
-        station: 0,
-        kind: Kind::Send,
-        pair: 0,
-    };
-    let constraint = Constraint {
-        first: 0,
-        second: 0,
-        interval,
-    };
-    let chart = Chart {
-        events: Bounded::new(event),
-        constraints: Bounded::new(constraint),
-        is_final: false,
-    };
-    let link = Link {
-        from: 0,
-        to: 0,
-        intervals: [interval; 8],
-    };
-    Book {
-        stations: 0,
-        first: 0,
-        near: 0,
-        far: 0,
-        charts: Bounded::new(chart),
-        links: Bounded::new(link),
-    }
-}
-
-/// The state that a phase is told as.
-fn state_of(phase: Phase) -> State
-    ensures { result ≡ state_of phase }
-{
-    match phase {
-        Phase::Idle => State::Idle,
-        Phase::Open(_, _) => State::Open,
-        Phase::Runs(_) => State::Runs,
-        Phase::Empty => State::Empty,
-        Phase::Spent => State::Spent,
-    }
+    ghost sound: { ∥ NextExists (book_value book) (phase_of phase) ∥₁ },
 }
 
 /// How many charts the path found has, or 0.
@@ -105,19 +57,16 @@ fn goal(phase: Phase) -> Result<u16, Fault>
 
 /// Writes the earliest dating of a list of links to the front of the space, if the list is a path.
 pub fn date_links(book: &Book, links: &[u8], space: &mut [u32]) -> Result<usize, Fault>
-    requires good { GoodBook (book_value book.now) }
-    requires few { length links.now ≤ 4095 }
+    requires { length links.now ≤ 4095 }
     ensures { DatedLinks (book_value book.now) links.now space.old result space.new }
 {
     // Only rows that something else wrote can tell of links that are no path.
-    if !is_path(book, links) {
-        return Err(Fault::NotRunning);
-    }
-    let needed = event_count(book, links);
+    let path = BookPath::of(book, links).ok_or(Fault::NotRunning)?;
+    let needed = path.event_count();
     if space.len() < needed {
         return Err(Fault::TooLittleSpace { needed });
     }
-    Ok(earliest_dates_if_datable(book, links, space))
+    Ok(earliest_dates_if_datable(&path, space))
 }
 
 impl Examination {
@@ -126,7 +75,7 @@ impl Examination {
         ensures { result.phase ≡ Phase.Idle }
     {
         Examination {
-            book: blank_book(),
+            book: Book::smallest(),
             phase: Phase::Idle,
         }
     }
@@ -142,7 +91,7 @@ impl Examination {
         let book = read_book(bytes)?;
         let phase = begin_walk(&book, register);
         *self = Examination { book, phase };
-        Ok(state_of(phase))
+        Ok(State::from(phase))
     }
 
     /// Makes steps while the state is open and within the budget. Answers how many, and the number of the state.
@@ -172,7 +121,7 @@ impl Examination {
         }
         let (steps, phase) = go_on(&self.book, register, self.phase, budget, watch);
         self.phase = phase;
-        Ok((steps, state_of(phase).code()))
+        Ok((steps, u8::from(State::from(phase))))
     }
 
     /// The state, and for runs how many charts the path has.
@@ -180,7 +129,7 @@ impl Examination {
         ensures { VerdictMeans (view_of self.now.book self.now.phase (R.rows register.now)) result }
     {
         Verdict {
-            state: state_of(self.phase),
+            state: State::from(self.phase),
             charts: charts_in(register, self.phase),
         }
     }
@@ -198,7 +147,7 @@ impl Examination {
         Ok(leg_of(register, climb(register, row, levels)))
     }
 
-    /// The book last taken; until then, one without charts.
+    /// The book last taken; until then, the smallest there is.
     pub fn book(&self) -> &Book
         ensures { result.now ≡ self.now.book }
     {
@@ -206,11 +155,11 @@ impl Examination {
     }
 
     /// The links of the path.
-    pub fn route<R: Register>(&self, register: &R) -> Result<Route, Fault>
+    pub fn route<R: Register>(&self, register: &R) -> Result<ArrayVec<u8, MOST_LINKS>, Fault>
         ensures { RouteIn (R.rows register.now) self.now.phase result }
     {
         let row = goal(self.phase)?;
-        Ok(Route::to(register, row))
+        Ok(links_to(register, row))
     }
 
     /// Writes the earliest dating of the path to the front of the space, position after position and by event number;
@@ -219,7 +168,6 @@ impl Examination {
         ensures { DatesMeans (view_of self.now.book self.now.phase (R.rows register.now)) space.old result space.new }
     {
         let row = goal(self.phase)?;
-        let route = Route::to(register, row);
-        date_links(&self.book, route.as_slice(), space)
+        date_links(&self.book, &links_to(register, row), space)
     }
 }

@@ -25,10 +25,7 @@ fn spaces_for(calls: &[Call]) -> Option<usize>
 {
     let mut total: usize = 0;
     for call in calls {
-        match total.checked_add(space_for(*call)) {
-            Some(sum) => total = sum,
-            None => return None,
-        }
+        total = total.checked_add(space_for(*call))?;
     }
     Some(total)
 }
@@ -100,10 +97,9 @@ pub fn conduct<R: Register>(
     check_room(calls, answers.len(), dates.len())?;
     let mut examination = Examination::new();
     let mut start = 0;
-    for place in 0..calls.len() {
-        let call = calls[place];
-        let end = start + space_for(call);
-        answers[place] = perform_within(&mut examination, register, call, dates, start, end);
+    for (place, call) in calls.iter().enumerate() {
+        let end = start + space_for(*call);
+        answers[place] = perform_within(&mut examination, register, *call, dates, start, end);
         start = end;
     }
     Ok(examination)

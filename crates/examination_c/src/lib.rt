@@ -28,10 +28,9 @@ fn walk<R: Register>(
 fn packed(walked: Result<(u16, u8), Fault>) -> u32
     ensures { result ≡ packed_as walked }
 {
-    match walked {
-        Ok((steps, state)) => u32::from(state) * 65_536 + u32::from(steps),
-        Err(_) => 0,
-    }
+    walked.map_or(0, |(steps, state)| {
+        u32::from(state) * 65_536 + u32::from(steps)
+    })
 }
 
 // A walk in a register that is let go.
@@ -53,10 +52,7 @@ pub extern "C" fn examination_walk_scanned(
 ) -> u32
     ensures { Told rows bytes.now budget result }
 {
-    match ScannedRegister::new(heap, rows) {
-        Ok(register) => walk_in(register, bytes, budget),
-        Err(_) => 0,
-    }
+    ScannedRegister::new(heap, rows).map_or(0, |register| walk_in(register, bytes, budget))
 }
 
 /// The same with rows that are found by the remainder of a sum.
@@ -69,10 +65,7 @@ pub extern "C" fn examination_walk_remainder(
 ) -> u32
     ensures { Told rows bytes.now budget result }
 {
-    match RemainderRegister::new(heap, rows) {
-        Ok(register) => walk_in(register, bytes, budget),
-        Err(_) => 0,
-    }
+    RemainderRegister::new(heap, rows).map_or(0, |register| walk_in(register, bytes, budget))
 }
 
 // Asks for the dates so many times, and answers how many they are.
@@ -85,11 +78,9 @@ fn date_often<R: Register>(
     ensures { result ≤ length space.old }
 {
     let mut count = 0;
+    // (So many times, none of which needs its number.)
     for _ in 0..times {
-        count = match examination.dates(register, space) {
-            Ok(dates) => dates,
-            Err(_) => 0,
-        };
+        count = examination.dates(register, space).unwrap_or(0);
     }
     count
 }

@@ -1,4 +1,5 @@
 // Lists of calls on both registers, with what each call answers.
+use bookformat::Refusal;
 use examination::conduct;
 use history::{Answer, Call, State};
 use register::Register;
@@ -42,8 +43,8 @@ enum Reply {
     Refused(u8, u8, usize),
 }
 
-impl Reply {
-    fn of(answer: Answer) -> Reply {
+impl From<Answer> for Reply {
+    fn from(answer: Answer) -> Reply {
         match answer {
             Answer::Told(verdict) => Reply::Told(verdict.state, verdict.charts),
             Answer::Begun(Ok(state)) => Reply::Begun(state),
@@ -54,7 +55,7 @@ impl Reply {
             | Answer::Advanced(Err(fault))
             | Answer::Shown(Err(fault))
             | Answer::Dated(Err(fault)) => {
-                let told = fault.refusal();
+                let told = Refusal::from(fault);
                 Reply::Refused(told.number, told.layer, told.place)
             }
         }
@@ -90,7 +91,7 @@ fn play<R: Register>(
         &mut space,
     )?;
     for (answer, (_, want)) in answers.iter().zip(script) {
-        assert_eq!(rt; Reply::of(*answer), *want);
+        assert_eq!(rt; Reply::from(*answer), *want);
     }
     for (date, want) in space.iter().zip(dates) {
         assert_eq!(rt; *date, *want);
@@ -239,12 +240,12 @@ fn conduct_in_vain<R: Register>(
     match conduct(register, calls, &mut answers, &mut space) {
         Ok(_) => assert!(rt; false),
         Err(fault) => assert_eq!(rt;
-            Reply::of(Answer::Dated(Err(fault))),
+            Reply::from(Answer::Dated(Err(fault))),
             Reply::Refused(15, 4, needed)
         ),
     }
     for answer in answers {
-        assert_eq!(rt; Reply::of(answer), Reply::of(UNANSWERED));
+        assert_eq!(rt; Reply::from(answer), Reply::from(UNANSWERED));
     }
     assert_eq!(rt; space, [UNWRITTEN; 5]);
     assert_eq!(rt; register.count(), rows);

@@ -1,10 +1,10 @@
 -- The first and the last place of a station in a list of stations.
 use Rattle.std.specs.Prelude.{◌≡◌, ℕ, ◌+◌, ◌<◌, ◌≤◌, List, ◌++◌, map, length, take, Some, None, filter, Option, ◌≢◌, slice_index}
 use Rattle.std.specs.List.{range_with_len}
-use Rattle.bookformat.specs.declared.bounded.Bounded.{Bounded}
+use Rattle.arrayvec.specs.ArrayVec.{ArrayVec, array_vec_len}
 use Rattle.bookformat.specs.declared.value.Event.{Event}
 use Rattle.bookformat.specs.Reading.{is_silent}
-use Rattle.bookformat.specs.Values.{ChartValue, BookValue, held}
+use Rattle.bookformat.specs.Values.{ChartValue, BookValue}
 use Rattle.paths.specs.Charts.{event_stations}
 use Rattle.fullchart.specs.declared.FullChart.{FullChart}
 
@@ -26,15 +26,15 @@ LastOn l p r = LastBelow l p (length l) r
 
 -- what the full chart of a book's chart holds
 pub record IsFull (b : BookValue) (c : ChartValue) (f : FullChart) : Type 0 where
-  pub stations : held f.stations ≡ event_stations b c
+  pub stations : f.stations.items ≡ event_stations b c
   pub working : f.working ≡ length c.events
 
 -- the stations of the first n events
-pub record WorkingHeld (es : List Event) (n : ℕ) (s : Bounded ℕ 48) : Type 0 where
-  pub held_are : held s ≡ map (λ (e : Event). e.station) (take n es)
-  pub count : s.len ≡ n
+pub record WorkingHeld (es : List Event) (n : ℕ) (s : ArrayVec ℕ) : Type 0 where
+  pub held_are : s.items ≡ map (λ (e : Event). e.station) (take n es)
+  pub count : array_vec_len s ≡ n
 
 -- and after them the silent stations below a number
-pub record SilentAdded (s t : Bounded ℕ 48) (es : List Event) (n : ℕ) : Type 0 where
-  pub held_are : held t ≡ held s ++ filter (is_silent es) (range_with_len 0 n)
-  pub count : t.len ≤ s.len + n
+pub record SilentAdded (s t : ArrayVec ℕ) (es : List Event) (n : ℕ) : Type 0 where
+  pub held_are : t.items ≡ s.items ++ filter (is_silent es) (range_with_len 0 n)
+  pub count : array_vec_len t ≤ array_vec_len s + n

@@ -1,18 +1,21 @@
 //! The full chart: the working events, and an event for each silent station.
 #![tactic(auto)]
 
-ghost use Rattle.std.specs.Prelude.{◌≡◌, ◌≤◌, length, nat_lt};
-ghost use Rattle.bookformat.specs.Values.{held, chart_value, book_value};
+ghost use Rattle.arrayvec.specs.ArrayVec.{array_vec_len};
+ghost use Rattle.std.specs.Prelude.{◌≡◌, ◌<◌, ◌≤◌, length, nat_lt};
+ghost use Rattle.bookformat.specs.Values.{chart_value};
+ghost use Rattle.bookformat.specs.Books.{book_value};
+ghost use Rattle.bookformat.specs.Rules.{chart};
 ghost use Rattle.paths.specs.Datings.{drift_of};
 ghost use Rattle.fullchart.specs.Finds.{FirstOn, LastOn, WorkingHeld, SilentAdded, IsFull};
 
-use bookformat::{Book, Bounded, Chart, Event};
+use bookformat::{ArrayVec, Book, Chart, Event};
 use bookrecords::is_silent;
 
 /// The stations of a full chart's events, by event number, and how many of them are working ones.
-#[derive(Clone, Copy)]
+#[derive(Clone, Drop)]
 pub struct FullChart {
-    pub stations: Bounded<u8, 48>,
+    pub stations: ArrayVec<u8, 48>,
     pub working: usize,
 }
 
@@ -20,33 +23,22 @@ pub struct FullChart {
 pub fn first_on(stations: &[u8], station: u8) -> Option<usize>
     ensures { FirstOn stations.now station result }
 {
-    for (e, s) in stations.iter().enumerate() {
-        if *s == station {
-            return Some(e);
-        }
-    }
-    None
+    stations.iter().position(|s| *s == station)
 }
 
 /// Where the station last stands in the list.
 pub fn last_on(stations: &[u8], station: u8) -> Option<usize>
     ensures { LastOn stations.now station result }
 {
-    let mut last = None;
-    for (e, s) in stations.iter().enumerate() {
-        if *s == station {
-            last = Some(e);
-        }
-    }
-    last
+    stations.iter().rposition(|s| *s == station)
 }
 
 /// The stations of the working events.
-fn working_stations(events: &[Event]) -> Bounded<u8, 48>
+fn working_stations(events: &[Event]) -> ArrayVec<u8, 48>
     requires { length events.now ≤ 40 }
     ensures { WorkingHeld events.now (length events.now) result }
 {
-    let mut stations = Bounded::new(0);
+    let mut stations = ArrayVec::new();
     for e in events {
         stations.push(e.station);
     }
@@ -54,10 +46,11 @@ fn working_stations(events: &[Event]) -> Bounded<u8, 48>
 }
 
 /// One event more for each station that is silent.
-fn add_silent(stations: &mut Bounded<u8, 48>, events: &[Event], count: u8)
-    requires { (count ≤ 8) × (stations.old.len ≤ 40) }
+fn add_silent(stations: &mut ArrayVec<u8, 48>, events: &[Event], count: u8)
+    requires { (count ≤ 8) × (array_vec_len stations.old ≤ 40) }
     ensures { SilentAdded stations.old stations.new events.now count }
 {
+    // (By the numbers of stations, which the book counts and no list holds.)
     for p in 0..count {
         if is_silent(events, usize::from(p)) {
             stations.push(p);
@@ -68,7 +61,6 @@ fn add_silent(stations: &mut Bounded<u8, 48>, events: &[Event], count: u8)
 impl FullChart {
     /// The full chart of a chart of the book.
     pub fn of(book: &Book, chart: &Chart) -> FullChart
-        requires { book.now.stations ≤ 8 }
         ensures { IsFull (book_value book.now) (chart_value chart.now) result }
     {
         let events = chart.events.as_slice();
@@ -80,9 +72,17 @@ impl FullChart {
         }
     }
 
+    /// The full chart of the chart with a number.
+    pub fn numbered(book: &Book, number: usize) -> FullChart
+        requires { number < length (book_value book.now).charts }
+        ensures { IsFull (book_value book.now) (chart (book_value book.now) number) result }
+    {
+        FullChart::of(book, book.chart(number))
+    }
+
     /// How many events it has.
     pub fn count(&self) -> usize
-        ensures { result ≡ length (held self.now.stations) }
+        ensures { result ≡ length self.now.stations.items }
     {
         self.stations.as_slice().len()
     }

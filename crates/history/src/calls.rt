@@ -2,14 +2,14 @@ use crate::phase::State;
 use bookformat::Fault;
 
 /// The state of an examination and, if it runs, how many charts its path has, else 0.
-#[derive(Clone, Copy)]
+#[derive(Clone, Copy, PartialEq, Eq, Debug)]
 pub struct Verdict {
     pub state: State,
     pub charts: usize,
 }
 
 /// One position of the path found: its chart, and the link that led to it; none leads to the first.
-#[derive(Clone, Copy)]
+#[derive(Clone, Copy, PartialEq, Eq, Debug)]
 pub struct Leg {
     pub chart: u8,
     pub link: Option<u8>,

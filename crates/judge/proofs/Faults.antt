@@ -1,19 +1,20 @@
 -- The positions of a list of links, up to the first that is at fault.
-use Rattle.std.proofs.Common.{◌≡◌, ℕ, ◌<◌, ◌≤◌, List, length, get_or, IsErrAnd, Ok, Err, Result, sym, ap, ◌∙◌, arith}
+use Rattle.std.proofs.Common.{◌≡◌, ℕ, ◌+◌, ◌<◌, ◌≤◌, List, length, get_or, IsErrAnd, Ok, Err, Result, sym, ap, ◌∙◌, add-one, arith, below_more}
 use Rattle.bookformat.specs.declared.fault.Fault.{Fault}
 use Rattle.bookformat.specs.declared.fault.Fault.TheVariants.{WrongDateCount}
 use Rattle.bookformat.specs.Values.{BookValue}
 use Rattle.chartbook.specs.Reads.{Refused}
-use Rattle.paths.specs.Paths.{Leaves}
+use Rattle.paths.specs.Paths.{link, Leaves, chart_number}
 use Rattle.paths.specs.Listing.{events_of}
+use Rattle.routes.specs.Stops.{StandsAt}
 use Rattle.judge.specs.declared.judgement.Judgement.{Judgement}
 use Rattle.judge.specs.Judging.{AtFault, bad_link, too_many, FirstAtFault, GoodPath, Judged, bad_path, wrong_count, Judges, bad_book}
-use Rattle.judge.specs.Walking.{StandsAt, PathChecked, fault, fine}
+use Rattle.judge.specs.Walking.{PathChecked, fault, fine}
 
-module _ (b : BookValue) (path : List ℕ) (k at : ℕ) (stands : StandsAt b path k at) where
+module _ (b : BookValue) (path : List ℕ) (k at : ℕ) (stands : StandsAt b path k at) (few : k ≤ 4095) where
   none_before : (j : ℕ) → j < k → AtFault b path j → ⊥
-  none_before j h (bad_link l n) = n (stands.goes_on j h)
-  none_before j h (too_many e l) = omega (arith, stands.few)
+  none_before j h (bad_link l n) = let leaves = stands.goes_on j h in n (record { exists = leaves.0; begins = leaves.1 })
+  none_before j h (too_many e l) = omega (arith, few)
 
   pub link_fails : k < length path → (Leaves b at (get_or path k 0) → ⊥) → FirstAtFault b path k
   link_fails h n = record { at_fault = bad_link h (λ g. n (g.exists, g.begins ∙ sym stands.chart)); smallest = none_before }
@@ -23,9 +24,16 @@ module _ (b : BookValue) (path : List ℕ) (k at : ℕ) (stands : StandsAt b pat
 
   pub all_go_on : length path ≤ k → GoodPath b path
   all_go_on h = record {
-    is_path = record { exists = λ j l. (stands.goes_on j (omega arith)).exists; begins = λ j l. (stands.goes_on j (omega arith)).begins };
-    length_most = omega (arith, stands.few);
+    is_path = record { exists = λ j l. (stands.goes_on j (omega arith)).0; begins = λ j l. (stands.goes_on j (omega arith)).1 };
+    length_most = omega (arith, few);
   }
+
+-- the link at position k leads on
+pub goes_further : (b : BookValue) (path : List ℕ) (k at n to : ℕ) → StandsAt b path k at → n ≡ get_or path k 0 → Leaves b at n → to ≡ (link b n).to → StandsAt b path (k + 1) to
+goes_further b path k at n to stands is leaves leads = record {
+  chart = leads ∙ ap (λ m. (link b m).to) is ∙ ap (chart_number b path) (sym (add-one k));
+  goes_on = below_more _ k stands.goes_on (omega (arith, is, leaves.0), ap (λ m. (link b m).from) (sym is) ∙ leaves.1 ∙ stands.chart);
+}
 
 -- an exit hands a fault on
 handed : (r : Result Judgement Fault) (f : Fault) → IsErrAnd r (λ e. e ≡ f) → r ≡ Err f

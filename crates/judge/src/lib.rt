@@ -1,29 +1,35 @@
 //! Judges written dates: are they a dating of a path through a chart book?
 #![tactic(auto)]
 
-ghost use Rattle.bookformat.specs.Values.{book_value};
-ghost use Rattle.bookformat.specs.Rules.{GoodBook};
+ghost use Rattle.bookformat.specs.Books.{book_value};
 ghost use Rattle.judge.specs.Judging.{Judged, Judges};
 
 use bookformat::{Book, Fault};
 use chartbook::read_book;
-use dates::judge_dates;
-use path::{check_count, check_path};
+use dated::DatedPath;
+use path::parse_path;
+use routes::BookPath;
 
-mod dates;
+mod dated;
 mod judgement;
 mod path;
 
 pub use judgement::Judgement;
 
-/// Judges dates of a path through a book that is read.
+/// Judges dates of a path.
+fn judge_path(path: &BookPath, dates: &[u32]) -> Result<Judgement, Fault>
+    ensures { Judged (book_value path.now.book.now) path.now.links.now dates.now result }
+{
+    let dated = DatedPath::of(path, dates)?;
+    Ok(dated.judge())
+}
+
+/// Judges dates of links through a book that is read.
 fn judge_in(book: &Book, links: &[u16], dates: &[u32]) -> Result<Judgement, Fault>
-    requires { GoodBook (book_value book.now) }
     ensures { Judged (book_value book.now) links.now dates.now result }
 {
-    check_path(book, links)?;
-    check_count(book, links, dates)?;
-    Ok(judge_dates(book, links, dates))
+    let numbers = parse_path(book, links)?;
+    judge_path(&BookPath::new(book, &numbers), dates)
 }
 
 /// Are the dates a dating of the path through the book that the bytes say, and if not, where do they

@@ -5,19 +5,7 @@
 mod tests {
     use bookformat::Refusal;
     use judge::{Judgement, judge};
-
-    // Two stations, near and far 3. Chart 0 has a message of 3 ticks; charts 1 and 2 have a message.
-    // Links 0 -> 1 and 1 -> 1 take 2 and 1 ticks, link 1 -> 2 takes none.
-    const COUNTDOWN: &[u8; 148] = b"TCM\x00\x01\x02\x03\x00\x03\x00\x03\x00\x03\
-        \x02\x01\x00\x00\x21\x01\x01\x3f\x00\x00\x01\x00\x03\x00\x03\
-        \x02\x00\x00\x00\x21\x01\x01\x3f\x00\
-        \x02\x00\x01\x01\x21\x01\x00\x3f\x00\
-        \x00\x01\x00\x02\x00\x02\x00\x01\x00\x01\
-        \x00\x00\xff\xff\x00\x00\xff\xff\x00\x00\xff\xff\x00\x00\xff\xff\x00\x00\xff\xff\x00\x00\xff\xff\
-        \x01\x01\x00\x02\x00\x02\x00\x01\x00\x01\
-        \x00\x00\xff\xff\x00\x00\xff\xff\x00\x00\xff\xff\x00\x00\xff\xff\x00\x00\xff\xff\x00\x00\xff\xff\
-        \x01\x02\x00\x00\x00\x00\x00\x00\x00\x00\
-        \x00\x00\xff\xff\x00\x00\xff\xff\x00\x00\xff\xff\x00\x00\xff\xff\x00\x00\xff\xff\x00\x00\xff\xff";
+    use worked_books::COUNTDOWN;
 
     // Three stations, near 1, far 2. Chart 0 has a message from station 0 to 1, and a link to itself
     // without bounds; station 2 is silent.
@@ -34,17 +22,11 @@ mod tests {
         \x00\x00\xff\xff\x00\x00\xff\xff\x00\x00\xff\xff\x00\x00\xff\xff\x00\x00\xff\xff\x00\x00\xff\xff";
 
     fn judged(book: &[u8], links: &[u16], dates: &[u32]) -> Option<Judgement> {
-        match judge(book, links, dates) {
-            Ok(judgement) => Some(judgement),
-            Err(_) => None,
-        }
+        judge(book, links, dates).ok()
     }
 
     fn refused(book: &[u8], links: &[u16], dates: &[u32]) -> Option<Refusal> {
-        match judge(book, links, dates) {
-            Ok(_) => None,
-            Err(fault) => Some(fault.refusal()),
-        }
+        judge(book, links, dates).err().map(Refusal::from)
     }
 
     fn refusal(number: u8, layer: u8, place: usize) -> Option<Refusal> {

@@ -1,2 +1,2 @@
+pub mod Equal
 pub mod Ranges
-pub mod Same

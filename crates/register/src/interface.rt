@@ -45,6 +45,7 @@ pub trait Register {
         ensures capacity { capacity self.new ≡ capacity self.old };
 
     /// Copies the row at a place to `out`; false, and `out` as it was, if there is none.
+    // (A flag beside a lent row: the form that the project fixes for a register's `read`.)
     fn read(&self, place: u16, out: &mut Row) -> bool
         ensures { Reads (rows self.now) place out.old result out.new };
 

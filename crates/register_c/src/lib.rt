@@ -33,11 +33,10 @@ fn enter_all<R: Register>(register: &mut R, count: u16) -> u16
     ensures few { result ≤ count }
 {
     let mut new = 0u16;
+    // (A loop: tried as a `fold`, after which nothing is known of the register that its closure changed.)
     for number in 0..count {
-        match register.enter(&row(number)) {
-            Entered::New(_) => new += 1,
-            Entered::Known(_) => {}
-            Entered::Full => {}
+        if matches!(register.enter(&row(number)), Entered::New(_)) {
+            new += 1;
         }
     }
     new
@@ -47,10 +46,7 @@ fn enter_all<R: Register>(register: &mut R, count: u16) -> u16
 fn enter_made<R: Register + Drop>(made: Result<R, Unmade>, count: u16) -> u16
     ensures { result ≤ count }
 {
-    match made {
-        Ok(mut register) => enter_all(&mut register, count),
-        Err(_) => 0,
-    }
+    made.map_or(0, |mut register| enter_all(&mut register, count))
 }
 
 #[unsafe(no_mangle)]

@@ -1,9 +1,9 @@
 -- Looking along a chain, and chains with one more row.
-use Rattle.std.proofs.Common.{◌≡◌, ℕ, ◌+◌, ◌<◌, ◌≤◌, List, [], ◌∷◌, ◌++◌, length, get_or, set, replicate, Some, None, Option, sym, refl, ap, ◌∙◌, subst, ⊎_elim, arith}
+use Rattle.std.proofs.Common.{◌≡◌, ℕ, ◌+◌, ◌<◌, ◌≤◌, List, [], ◌∷◌, ◌++◌, length, get_or, set, Some, None, Option, sym, refl, ap, ◌∙◌, subst, ⊎_elim, arith}
 use mathlib.Core.HLevel.{⊥_prop}
 use mathlib.Core.Logic.{∥∥₁_elim, ∥∥₁_map, ∥∥₁_prop}
 use native.Mathlib.Bridge.{le_prop}
-use Rattle.std.proofs.lemmas.List.{length_push, get_or_append_left, get_or_push, get_or-set_same, get_or-set_other, get_or-replicate}
+use Rattle.std.proofs.lemmas.List.{length_push, get_or_append_left, get_or_push, get_or-set_same, get_or-set_other}
 use Rattle.std.proofs.lemmas.Bool.{cases_eq, cases_lt, cases_order}
 use Rattle.register.specs.declared.row.Class.{Class}
 use Rattle.register.specs.declared.row.Row.{Row}
@@ -96,16 +96,6 @@ links_more at b end (Some i) other h =
 -- at a chain and a link that are equal
 links_at : (at : ℕ → ℕ) (b b' end : ℕ) (link link' : Option ℕ) → b' ≡ b → link' ≡ link → Links at b end link → Links at b' end link'
 links_at at b b' end link link' p q h = subst (λ (x : ℕ). Links at x end link') (sym p) (subst (Links at b end) (sym q) h)
-
-empty : (n : ℕ) → Chained n [] (replicate n None) []
-empty n = record {
-  begin = λ b l. subst (Links (chain_at n []) b 0) (sym (get_or-replicate n b None None l)) (λ k m e. omega arith);
-  follow = λ i l. omega arith;
-  apart = λ i j m l e. omega arith;
-}
-
-pub chained_none : (n : ℕ) (rows : List Row) (heads next : List (Option ℕ)) → rows ≡ [] → heads ≡ replicate n None → next ≡ [] → Chained n rows heads next
-chained_none n rows heads next p q r = rw (p, q, r) (empty n)
 
 -- A row of a new class is appended: the head of its chain names it, and it names what the head did.
 module _ (n : ℕ) (rows : List Row) (row : Row) (heads next : List (Option ℕ)) (c : Chained n rows heads next) where

@@ -15,27 +15,21 @@ use std::alloc::Global;
 // So large that a change of one entry is seldom made up for by the next.
 const FACTOR: u64 = 10_007;
 
-// The sum over some entries, from a start.
-fn sum(start: u64, entries: &[i16]) -> u64
-    ensures { result ≡ fold summed start entries.now }
-{
-    let mut sum = start;
-    for value in entries {
-        let added = i64::from(*value);
-        sum = sum.wrapping_mul(FACTOR).wrapping_add_signed(added);
-    }
-    sum
-}
-
 /// The sum over the numbers of a class.
 pub fn class_sum(class: &Class) -> u64
     ensures { result ≡ class_sum class.now }
 {
-    sum(u64::from(class.chart), &class.profile.entries)
+    let entries = class.profile.entries.iter();
+    entries.fold(u64::from(class.chart), |sum, entry| {
+        sum.wrapping_mul(FACTOR)
+            .wrapping_add_signed(i64::from(*entry))
+    })
 }
 
 /// Rows are found by the remainder of a sum over their numbers.
 // Rows with one remainder are in one chain: its head names the last of them, and `next` for each row the one before it.
+// (Places in chains, and no map of std: a map asks for memory on insert, and the remainder of a sum is a form that the project fixes.)
+// (`next` stands beside the store's rows: within them it would be a field that the register which compares rows in turn has no use for.)
 #[derive(Drop)]
 pub struct RemainderRegister {
     store: Store,
@@ -72,10 +66,11 @@ impl RemainderRegister {
         ensures { Finds (store_rows self.now.store) class.now result }
     {
         let rows = self.store.rows();
+        // (A loop: `successors` counts as endless, and `find` takes only an iterator that ends.)
         let mut link = self.heads[chain];
         while let Some(place) = link {
             let at = usize::from(place);
-            if rows[at].class == *class {
+            if rows[at].is_of(class) {
                 return Some(place);
             }
             link = self.next[at];
@@ -84,6 +79,7 @@ impl RemainderRegister {
     }
 }
 
+// (Calls handed on in the same words by both registers: a register generic in how it finds rows needs a trait of five methods with laws, and a scan would leave four of them empty.)
 impl Register for RemainderRegister {
     ghost rows = { λ s. store_rows s.store };
 
@@ -109,7 +105,11 @@ impl Register for RemainderRegister {
     }
 
     fn read(&self, place: u16, out: &mut Row) -> bool {
-        self.store.read(place, out)
+        let Some(row) = self.store.get(place) else {
+            return false;
+        };
+        *out = *row;
+        true
     }
 
     fn count(&self) -> u16 {

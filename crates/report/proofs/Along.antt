@@ -1,25 +1,15 @@
 -- The lines of a path's charts, stop after stop.
-use Rattle.std.proofs.Common.{◌≡◌, ℕ, zero, suc, ◌+◌, ◌-◌, ◌≤◌, List, length, get_or, take, drop, Some, None, Option, sym, refl, ap, ◌∙◌, subst, append_assoc, add-one, arith, length-append}
-use Rattle.bookformat.specs.Values.{BookValue, held}
+use Rattle.std.proofs.Common.{◌≡◌, ℕ, zero, suc, ◌+◌, ◌-◌, ◌≤◌, List, ◌++◌, length, get_or, take, drop, Some, Option, sym, ap, ◌∙◌, add-one, arith, length-append}
+use Rattle.bookformat.specs.Values.{BookValue}
 use Rattle.paths.specs.Charts.{event_count}
 use Rattle.paths.specs.Paths.{chart_number, chart_at}
 use Rattle.paths.specs.Listing.{events_of}
 use Rattle.paths.proofs.Listed.{before_rises}
-use Rattle.earliest.specs.declared.stops.Stop.{Stop}
-use Rattle.earliest.specs.Positions.{At}
-use Rattle.earliest.proofs.Placing.{count_at, end_is}
+use Rattle.routes.specs.declared.stop.Stop.{Stop}
+use Rattle.routes.specs.Stops.{At, dates_of}
+use Rattle.routes.proofs.Placing.{count_at, end_is}
 use Rattle.history.specs.Meanings.{link_to}
-use Rattle.report.specs.Texts.{Holds, Puts}
-use Rattle.report.specs.Reports.{line_text, dates_at, lines_text, dates_of, line_size, PutsLine}
-use Rattle.report.proofs.Placed.{puts_none, puts_both, puts_as}
-use Rattle.report.proofs.Dated.{line_length}
-
--- a line that was put piece by piece
-pub puts_line : (before after : List ℕ) (at next : ℕ) (link : Option ℕ) (chart : ℕ) (ds : List ℕ) → PutsLine before after at next link chart ds → Puts before after at next (line_text link chart ds)
-puts_line before after at next link chart ds p = (
-  omega (arith, p.0, line_length link chart ds),
-  λ first text holds. subst (Holds first after next) (simp append_assoc) (p.1 first text holds),
-)
+use Rattle.report.specs.Reports.{line_text, dates_at, lines_text}
 
 module _ (b : BookValue) (path dates : List ℕ) where
   lines_grow : (k m : ℕ) → length (lines_text b path dates k) ≤ length (lines_text b path dates (m + k))
@@ -39,7 +29,7 @@ module _ (b : BookValue) (path dates : List ℕ) where
 
   module _ (k : ℕ) (s : Stop) (at : At b path k s) where
     -- the dates of the stop lie within the list
-    pub stop_inside : k ≤ length path → events_of b path ≤ length dates → s.first + length (held s.full.stations) ≤ length dates
+    pub stop_inside : k ≤ length path → events_of b path ≤ length dates → s.first + length s.full.stations.items ≤ length dates
     stop_inside h long = omega (arith, end_is b path k s at, before_rises b path (suc k) (suc (length path)) (omega arith))
 
     stop_dates : dates_of s dates ≡ dates_at b path dates k
@@ -52,31 +42,13 @@ module _ (b : BookValue) (path dates : List ℕ) where
           ∙ ap (λ n. line_text (link_to path k) n (dates_of s dates)) at.number
           ∙ ap (line_text (link_to path k) (chart_number b path k)) stop_dates
 
-      pub lines_more : length (lines_text b path dates (suc k)) ≡ length (lines_text b path dates k) + line_size link s.number (dates_of s dates)
-      lines_more =
-          omega (
-            arith,
-            ap length line_is,
-            line_length link s.number (dates_of s dates),
-            length-append (lines_text b path dates k) (line_text (link_to path k) (chart_number b path k) (dates_at b path dates k)),
-          )
+      pub lines_more : lines_text b path dates k ++ line_text link s.number (dates_of s dates) ≡ lines_text b path dates (suc k)
+      lines_more = ap (λ l. lines_text b path dates k ++ l) line_is
 
       -- there is room for this line where there is room for all
-      pub line_fits : k ≤ length path → length (lines_text b path dates k) + line_size link s.number (dates_of s dates) ≤ length (lines_text b path dates (suc (length path)))
-      line_fits h = omega (arith, lines_more, lines_rise (suc k) (suc (length path)) (omega arith))
-
-      pub puts_next : (before mid after : List ℕ) (place end next : ℕ) → Puts before mid place end (lines_text b path dates k) → PutsLine mid after end next link s.number (dates_of s dates) → Puts before after place next (lines_text b path dates (suc k))
-      puts_next before mid after place end next p q =
-          puts_both before mid after place end next (lines_text b path dates k) (line_text (link_to path k) (chart_number b path k) (dates_at b path dates k)) p
-          (puts_as mid after end next (line_text link s.number (dates_of s dates)) (line_text (link_to path k) (chart_number b path k) (dates_at b path dates k)) line_is
-          (puts_line mid after end next link s.number (dates_of s dates) q))
-
-  pub first_line : (s : Stop) → At b path 0 s → (before after : List ℕ) (place next : ℕ) → PutsLine before after place next None s.number (dates_of s dates) → Puts before after place next (lines_text b path dates 1)
-  first_line s at before after place next p = puts_next 0 s at None refl before before after place place next (puts_none before place) p
-
-  -- what was put before a loop, and in it
-  abbrev pub PutsOn : List ℕ → ℕ → List ℕ → ℕ → ℕ → Type 0
-  PutsOn start from after next n = (before : List ℕ) (place : ℕ) → Puts before start place from (lines_text b path dates 1) → Puts before after place next (lines_text b path dates n)
+      pub line_fits : k ≤ length path → length (lines_text b path dates k) + length (line_text link s.number (dates_of s dates)) ≤ length (lines_text b path dates (suc (length path)))
+      line_fits h =
+          omega (arith, ap length lines_more, length-append (lines_text b path dates k) (line_text link s.number (dates_of s dates)), lines_rise (suc k) (suc (length path)) (omega arith))
 
   -- the link before position i + 1
   pub led_by : (i l : ℕ) → l ≡ get_or path i 0 → Some l ≡ link_to path (i + 1)

@@ -1,5 +1,4 @@
-pub mod Digits
-pub mod Placed
 pub mod Dated
 pub mod Along
+pub mod Short
 pub mod Whole

@@ -1,5 +1,5 @@
 -- The text of a notice, and what writing a text answers.
-use Rattle.std.specs.Prelude.{◌≡◌, ℕ, ◌+◌, ◌<◌, ◌≤◌, List, [], ◌∷◌, ◌++◌, length, drop, Ok, Err, codes, decimal, Result}
+use Rattle.std.specs.Prelude.{◌≡◌, ℕ, ◌<◌, ◌≤◌, List, [], ◌∷◌, ◌++◌, length, drop, Ok, Err, codes, decimal, Result}
 use Rattle.bookformat.specs.declared.fault.Fault.{Fault}
 use Rattle.bookformat.specs.declared.fault.Fault.TheVariants.{TooLittleSpace}
 use Rattle.bookformat.specs.declared.fault.Refusal.{Refusal}
@@ -26,14 +26,3 @@ notice_text f = refusal_text (refusal f)
 abbrev pub Writes : List ℕ → List ℕ → List ℕ → Result ℕ Fault → Type 0
 Writes text before after (Ok n) = (n ≡ length text) × (n ≤ length before) × (after ≡ text ++ drop n before)
 Writes text before after (Err f) = (length before < length text) × (f ≡ TooLittleSpace (length text)) × (after ≡ before)
-
--- a text at the front of a space, and behind it what the space held at first
-pub record Holds (first space : List ℕ) (at : ℕ) (text : List ℕ) : Type 0 where
-  pub end : at ≡ length text
-  pub is : space ≡ text ++ drop at first
-
--- a piece that is put behind a text
-abbrev pub Puts : List ℕ → List ℕ → ℕ → ℕ → List ℕ → Type 0
-Puts before after at next piece =
-    (next ≡ at + length piece)
-    × ((first text : List ℕ) → Holds first before at text → Holds first after next (text ++ piece))

@@ -1,76 +1,52 @@
 // The report of a path that was found.
-ghost use Rattle.std.specs.Prelude.{◌≡◌, suc, ◌+◌, ◌*◌, ◌≤◌, length};
-ghost use Rattle.bookformat.specs.Values.{held, book_value};
-ghost use Rattle.bookformat.specs.Rules.{GoodBook};
-ghost use Rattle.paths.specs.Paths.{Path};
+ghost use Rattle.std.specs.Prelude.{◌≡◌, suc, ◌+◌, ◌≤◌, length};
+ghost use Rattle.bookformat.specs.Books.{book_value};
 ghost use Rattle.paths.specs.Listing.{events_of};
-ghost use Rattle.report.specs.Texts.{Writes, Puts};
+ghost use Rattle.routes.specs.Stops.{dates_of};
+ghost use Rattle.report.specs.Texts.{Writes};
 ghost use Rattle.report.specs.Means.{LinksReported};
-ghost use Rattle.report.specs.Reports.{line_size, PutsLine, dates_of, lines_text, report_text};
+ghost use Rattle.report.specs.Reports.{line_text, lines_text, report_text};
 
-use crate::lines::{line_length, put_line, put_runs, runs_length};
+use crate::lines::put_runs;
+use crate::numbers::{put_dates, put_link, put_spaced};
+use crate::sinks::Sink;
+use crate::texts::{Text, write};
 use bookformat::{Book, Fault};
-use earliest::{Stop, first_stop, next_stop};
 use examination::date_links;
+use routes::{BookPath, Stop};
 
-/// The dates of a stop, out of all the dates of the path.
-fn dates_of<'a>(stop: &Stop, dates: &'a [u32]) -> &'a [u32]
-    requires { stop.now.first + length (held stop.now.full.stations) ≤ length dates.now }
-    ensures { (result.now ≡ dates_of stop.now dates.now) × (length result.now ≤ 48) }
-{
-    &dates[stop.first..stop.first + stop.full.count()]
+/// A path with the dates of its events.
+#[derive(Clone, Copy)]
+struct Found<'a> {
+    path: BookPath<'a>,
+    dates: &'a [u32],
+    ghost long: { events_of (book_value path.book.now) path.links.now ≤ length dates.now },
 }
 
-/// How long the line of a stop is.
-fn stop_length(link: Option<u8>, stop: &Stop, dates: &[u32]) -> usize
-    requires { stop.now.first + length (held stop.now.full.stations) ≤ length dates.now }
-    ensures { (result ≡ line_size link stop.now.number (dates_of stop.now dates.now)) × (result ≤ 1100) }
+/// Puts the line of a stop: the link that led to it, its chart's number, and its dates.
+fn put_line<S: Sink>(sink: &mut S, link: Option<u8>, stop: &Stop, dates: &[u32])
+    requires inside { stop.now.first + length stop.now.full.stations.items ≤ length dates.now }
+    requires room { length (line_text link stop.now.number (dates_of stop.now dates.now)) ≤ S.room sink.old }
+    ensures { S.Took sink.old (line_text link stop.now.number (dates_of stop.now dates.now)) sink.new }
 {
-    line_length(link, stop.number, dates_of(stop, dates))
+    put_link(sink, link);
+    put_spaced(sink, stop.number as u64);
+    put_dates(sink, stop.dates(dates));
+    sink.put(b"\n");
 }
 
-/// Writes the line of a stop.
-fn put_stop(space: &mut [u8], at: usize, link: Option<u8>, stop: &Stop, dates: &[u32]) -> usize
-    requires inside { stop.now.first + length (held stop.now.full.stations) ≤ length dates.now }
-    requires room { at + line_size link stop.now.number (dates_of stop.now dates.now) ≤ length space.old }
-    ensures { PutsLine space.old space.new at result link stop.now.number (dates_of stop.now dates.now) }
+/// Puts the lines of a path's charts.
+fn put_lines<S: Sink>(sink: &mut S, found: &Found)
+    requires { length (lines_text (book_value found.now.path.book.now) found.now.path.links.now found.now.dates.now (suc (length found.now.path.links.now))) ≤ S.room sink.old }
+    ensures { S.Took sink.old (lines_text (book_value found.now.path.book.now) found.now.path.links.now found.now.dates.now (suc (length found.now.path.links.now))) sink.new }
 {
-    put_line(space, at, link, stop.number, dates_of(stop, dates))
-}
-
-/// How long the lines of a path's charts are.
-fn lines_length(book: &Book, links: &[u8], dates: &[u32]) -> usize
-    requires good { GoodBook (book_value book.now) }
-    requires path { Path (book_value book.now) links.now }
-    requires few { length links.now ≤ 4095 }
-    requires long { events_of (book_value book.now) links.now ≤ length dates.now }
-    ensures { (result ≡ length (lines_text (book_value book.now) links.now dates.now (suc (length links.now)))) × (result ≤ 1100 * 4096) }
-{
-    let mut stop = first_stop(book, links);
-    let mut size = stop_length(None, &stop, dates);
-    for (position, link) in links.iter().enumerate() {
-        stop = next_stop(book, links, position, &stop);
-        size += stop_length(Some(*link), &stop, dates);
+    let path = found.path;
+    let mut stop = path.first_stop();
+    put_line(sink, None, &stop, found.dates);
+    for (position, link) in path.links.iter().enumerate() {
+        stop = path.stop_after(position, &stop);
+        put_line(sink, Some(*link), &stop, found.dates);
     }
-    size
-}
-
-/// Writes the lines of a path's charts.
-fn put_lines(space: &mut [u8], at: usize, book: &Book, links: &[u8], dates: &[u32]) -> usize
-    requires good { GoodBook (book_value book.now) }
-    requires path { Path (book_value book.now) links.now }
-    requires few { length links.now ≤ 4095 }
-    requires long { events_of (book_value book.now) links.now ≤ length dates.now }
-    requires room { at + length (lines_text (book_value book.now) links.now dates.now (suc (length links.now))) ≤ length space.old }
-    ensures { Puts space.old space.new at result (lines_text (book_value book.now) links.now dates.now (suc (length links.now))) }
-{
-    let mut stop = first_stop(book, links);
-    let mut end = put_stop(space, at, None, &stop, dates);
-    for (position, link) in links.iter().enumerate() {
-        stop = next_stop(book, links, position, &stop);
-        end = put_stop(space, end, Some(*link), &stop, dates);
-    }
-    end
 }
 
 /// How many charts the path of some links has.
@@ -81,21 +57,22 @@ fn chart_count(links: &[u8]) -> usize
     links.len() + 1
 }
 
-/// Writes the report of a path whose dates are known.
-fn write_path(book: &Book, links: &[u8], dates: &[u32], text: &mut [u8]) -> Result<usize, Fault>
-    requires good { GoodBook (book_value book.now) }
-    requires path { Path (book_value book.now) links.now }
-    requires few { length links.now ≤ 4095 }
-    requires long { events_of (book_value book.now) links.now ≤ length dates.now }
-    ensures { Writes (report_text (book_value book.now) links.now dates.now) text.old text.new result }
-{
-    let charts = chart_count(links);
-    let needed = runs_length(charts) + lines_length(book, links, dates);
-    if text.len() < needed {
-        return Err(Fault::TooLittleSpace { needed });
+/// The report of a path.
+impl Text for Found<'_> {
+    ghost text = { λ found. report_text (book_value found.path.book.now) found.path.links.now found.dates.now };
+
+    fn put<S: Sink>(&self, sink: &mut S) {
+        put_runs(sink, chart_count(self.path.links));
+        put_lines(sink, self);
     }
-    let behind_head = put_runs(text, 0, charts);
-    Ok(put_lines(text, behind_head, book, links, dates))
+}
+
+/// Writes the report of a path whose dates are known.
+fn write_path(path: &BookPath, dates: &[u32], text: &mut [u8]) -> Result<usize, Fault>
+    requires { events_of (book_value path.now.book.now) path.now.links.now ≤ length dates.now }
+    ensures { Writes (report_text (book_value path.now.book.now) path.now.links.now dates.now) text.old text.new result }
+{
+    write(&Found { path: *path, dates }, text)
 }
 
 /// Writes the report of a list of links with its earliest dates, if the list is a path.
@@ -105,10 +82,9 @@ pub fn report_links(
     work: &mut [u32],
     text: &mut [u8],
 ) -> Result<usize, Fault>
-    requires good { GoodBook (book_value book.now) }
-    requires few { length links.now ≤ 4095 }
+    requires { length links.now ≤ 4095 }
     ensures { LinksReported (book_value book.now) links.now work.old text.old result work.new text.new }
 {
     date_links(book, links, work)?;
-    write_path(book, links, work, text)
+    write_path(&BookPath::new(book, links), work, text)
 }

@@ -4,10 +4,10 @@
 mod found;
 mod lines;
 mod notices;
-mod numerals;
-mod pieces;
+mod numbers;
 mod reports;
-mod words;
+mod sinks;
+mod texts;
 
 pub use notices::notice;
 pub use reports::report;

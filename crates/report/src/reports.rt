@@ -3,7 +3,8 @@ ghost use Rattle.examination.specs.Views.{view_of};
 ghost use Rattle.report.specs.Means.{ReportMeans};
 
 use crate::found::report_links;
-use crate::lines::write_state;
+use crate::lines::StateLine;
+use crate::texts::write;
 use bookformat::Fault;
 use examination::{Examination, State};
 use register::Register;
@@ -21,9 +22,9 @@ pub fn report<R: Register>(
     match examination.verdict(register).state {
         State::Idle => Err(Fault::Idle),
         State::Runs => {
-            let route = examination.route(register)?;
-            report_links(examination.book(), route.as_slice(), work, text)
+            let links = examination.route(register)?;
+            report_links(examination.book(), &links, work, text)
         }
-        state => write_state(state, text),
+        state => write(&StateLine(state), text),
     }
 }

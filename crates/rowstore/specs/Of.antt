@@ -1,5 +1,5 @@
 -- What a clause reads of a store.
-use Rattle.std.specs.Prelude.{ℕ, List, vec_items}
+use Rattle.std.specs.Prelude.{ℕ, List, vec_items, vec_capacity}
 use Rattle.register.specs.declared.row.Row.{Row}
 use Rattle.rowstore.specs.declared.Store.{Store}
 
@@ -7,4 +7,4 @@ abbrev pub store_rows : Store → List Row
 store_rows store = vec_items store.rows
 
 abbrev pub store_capacity : Store → ℕ
-store_capacity store = store.capacity
+store_capacity store = vec_capacity store.rows

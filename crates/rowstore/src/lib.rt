@@ -1,32 +1,29 @@
 //! Rows in memory that is set aside once, so that no later call has to ask for any.
 #![tactic(auto)]
 
-ghost use Rattle.std.specs.Prelude.{◌≡◌, ◌<◌, ◌≤◌, [], ◌∷◌, ◌++◌, length, vec_len, vec_capacity, Decides};
+ghost use Rattle.std.specs.Prelude.{◌≡◌, ◌<◌, ◌≤◌, [], ◌∷◌, ◌++◌, length, vec_capacity, Decides, option_copied, slice_get};
 ghost use Rattle.register.specs.Making.{Makes};
-ghost use Rattle.register.specs.Meaning.{most_rows, Reads};
+ghost use Rattle.register.specs.Meaning.{most_rows};
 
 use register::{MOST_ROWS, Row, Unmade};
 use std::alloc::Global;
 
-/// At most `capacity` rows, with room for all of them.
+/// Rows, with as much memory as was asked for and no more, so that its capacity is that of the register.
 #[derive(Drop)]
 pub struct Store {
     rows: Vec<Row>,
-    capacity: u16,
-    ghost within: { vec_len rows ≤ capacity },
-    ghost limited: { capacity ≤ most_rows },
-    ghost reserved: { capacity ≤ vec_capacity rows },
+    ghost limited: { vec_capacity rows ≤ most_rows },
 }
 
 impl Store {
     pub fn new(heap: Global, capacity: u16) -> Result<Store, Unmade>
-        ensures { Makes (λ s. s.rows.items) (λ s. s.capacity) capacity result }
+        ensures { Makes (λ s. s.rows.items) (λ s. vec_capacity s.rows) capacity result }
     {
         if capacity > MOST_ROWS {
             return Err(Unmade::TooManyRows);
         }
         let rows = Vec::with_capacity(heap, usize::from(capacity))?;
-        Ok(Store { rows, capacity })
+        Ok(Store { rows })
     }
 
     pub fn rows(&self) -> &[Row]
@@ -42,33 +39,30 @@ impl Store {
     }
 
     pub fn capacity(&self) -> u16
-        ensures { result ≡ self.now.capacity }
+        ensures { result ≡ vec_capacity self.now.rows }
     {
-        self.capacity
+        self.rows.capacity() as u16
     }
 
     pub fn is_full(&self) -> bool
-        ensures { Decides result (self.now.capacity ≤ length self.now.rows.items) }
+        ensures { Decides result (vec_capacity self.now.rows ≤ length self.now.rows.items) }
     {
-        self.count() >= self.capacity
+        self.count() >= self.capacity()
     }
 
-    pub fn read(&self, place: u16, out: &mut Row) -> bool
-        ensures { Reads self.now.rows.items place out.old result out.new }
+    /// The row at a place, if one is held there.
+    pub fn get(&self, place: u16) -> Option<&Row>
+        ensures { option_copied result ≡ slice_get self.now.rows.items place }
     {
-        if place >= self.count() {
-            return false;
-        }
-        *out = self.rows[usize::from(place)];
-        true
+        self.rows.get(usize::from(place))
     }
 
     /// Appends a row, where there is room, and answers its place.
     pub fn append(&mut self, row: &Row) -> u16
-        requires { length self.old.rows.items < self.old.capacity }
+        requires { length self.old.rows.items < vec_capacity self.old.rows }
         ensures place { result ≡ length self.old.rows.items }
         ensures rows { self.new.rows.items ≡ self.old.rows.items ++ (row.now ∷ []) }
-        ensures capacity { self.new.capacity ≡ self.old.capacity }
+        ensures capacity { vec_capacity self.new.rows ≡ vec_capacity self.old.rows }
     {
         let place = self.count();
         self.rows.push_reserved(*row);
@@ -77,7 +71,7 @@ impl Store {
 
     pub fn clear(&mut self)
         ensures rows { self.new.rows.items ≡ [] }
-        ensures capacity { self.new.capacity ≡ self.old.capacity }
+        ensures capacity { vec_capacity self.new.rows ≡ vec_capacity self.old.rows }
     {
         self.rows.clear();
     }

@@ -1,38 +1,24 @@
 -- The chart with a number: what its dates are, and what all tests together decide.
-use Rattle.std.proofs.Common.{◌≡◌, ℕ, ◌+◌, ◌-◌, ◌<◌, ◌≤◌, Bool, List, map, length, get_or, take, Decides, sym, ap, ◌∙◌, subst, ap₂, inl, inr, arith, length-take}
+use Rattle.std.proofs.Common.{◌≡◌, ℕ, ◌+◌, ◌-◌, ◌<◌, ◌≤◌, Bool, List, length, Decides, sym, ap, ◌∙◌, subst, ap₂, inl, inr, arith}
 use native.Mathlib.Decide.{dec_lt}
 use Rattle.std.proofs.lemmas.Bool.Decides.{Decides-like}
-use Rattle.std.proofs.lemmas.List.{length-map, get_or-map}
 use Rattle.bookformat.specs.declared.value.Event.{Event}
 use Rattle.bookformat.specs.declared.value.Constraint.{Constraint}
-use Rattle.bookformat.specs.declared.value.Chart.{Chart}
-use Rattle.bookformat.specs.Values.{ChartValue, BookValue, chart_value}
-use Rattle.bookformat.specs.Rules.{no_chart, chart, GoodChart, GoodBook}
+use Rattle.bookformat.specs.Values.{ChartValue, BookValue}
+use Rattle.bookformat.specs.Rules.{chart, GoodChart, GoodBook}
 use Rattle.paths.specs.Charts.{Working, event_count}
 use Rattle.paths.specs.Datings.{drift, KeepsChart}
 use Rattle.paths.proofs.Full.{working_exists}
 use Rattle.paths.proofs.Facts.{ChartFacts, chart_facts}
 use Rattle.fullchart.specs.declared.FullChart.{FullChart}
-use Rattle.rules.specs.Checks.{date, AllPairs, InDrift, NamesDated, Covered, Passes, DatedChart}
-
--- the chart that is read is the one with the number
-pub chart_is : (b : BookValue) (cs slice : List Chart) (n : ℕ) (c : Chart) → b.charts ≡ map chart_value cs → slice ≡ cs → n < length slice → c ≡ get_or slice n c → chart_value c ≡ chart b n
-chart_is b cs slice n c charts is h read =
-    ap chart_value (read ∙ ap (λ (l : List Chart). get_or l n c) is)
-    ∙ sym (get_or-map chart_value cs n c no_chart (omega (arith, ap length is)))
-    ∙ ap (λ (l : List ChartValue). get_or l n no_chart) (sym charts)
-
-pub few_charts : (n m : ℕ) (xs slice : List Chart) → slice ≡ take m xs → m ≤ 32 → n < length slice → n ≤ 32
-few_charts n m xs slice is h below = omega (arith, ap length is, length-take m xs)
-
-pub charts_count : (b : BookValue) (cs slice : List Chart) → b.charts ≡ map chart_value cs → slice ≡ cs → length slice ≡ length b.charts
-charts_count b cs slice charts is = ap length is ∙ sym (length-map cs chart_value) ∙ sym (ap length charts)
+use Rattle.fullchart.specs.Finds.{IsFull}
+use Rattle.rules.specs.Checks.{date, AllPairs, InDrift, NamesDated, Covered, Passes}
 
 -- a chart as its slices hold it
 sliced : (v : ChartValue) (es : List Event) (cs : List Constraint) → es ≡ v.events → cs ≡ v.constraints → ◌≡◌ {A = ChartValue} (record { events = es; constraints = cs; final = v.final }) v
 sliced v es cs p q = ap₂ (λ (x : List Event) (y : List Constraint). record { events = x; constraints = y; final = v.final }) p q
 
-module _ (b : BookValue) (good : GoodBook b) (n : ℕ) (exists : n < length b.charts) (f : FullChart) (dates : List ℕ) (dated : DatedChart b (chart b n) f dates) (v : ChartValue) (numbered : v ≡ chart b n) (es : List Event) (cs : List Constraint) (events_are : es ≡ v.events) (constraints_are : cs ≡ v.constraints) where
+module _ (b : BookValue) (good : GoodBook b) (n : ℕ) (exists : n < length b.charts) (f : FullChart) (dates : List ℕ) (full : IsFull b (chart b n) f) (each : length dates ≡ length f.stations.items) (v : ChartValue) (numbered : v ≡ chart b n) (es : List Event) (cs : List Constraint) (events_are : es ≡ v.events) (constraints_are : cs ≡ v.constraints) where
   c : ChartValue
   c = record { events = es; constraints = cs; final = v.final }
 
@@ -47,10 +33,10 @@ module _ (b : BookValue) (good : GoodBook b) (n : ℕ) (exists : n < length b.ch
   rules = subst (GoodChart b.stations) (sym is) (good.charts n exists)
 
   count : length dates ≡ event_count b c
-  count = dated.count ∙ ap (event_count b) (sym is)
+  count = each ∙ ap length full.stations ∙ ap (event_count b) (sym is)
 
   working : f.working ≡ length c.events
-  working = dated.full.working ∙ ap (λ (x : ChartValue). length x.events) (sym is)
+  working = full.working ∙ ap (λ (x : ChartValue). length x.events) (sym is)
 
   works : (e : ℕ) → Working c e → e < length dates
   works e w = omega (arith, working_exists b c e w, count)
@@ -61,10 +47,8 @@ module _ (b : BookValue) (good : GoodBook b) (n : ℕ) (exists : n < length b.ch
   pub covered : Covered es cs dates
   unfolding c
   covered = record {
-    few_events = rules.events_most;
     events = omega (arith, rules.events_least, works (length es - 1) (omega (arith, rules.events_least)));
     named = names;
-    few_dates = omega (arith, count, facts.count);
   }
 
   near_enough : AllPairs (length dates) (InDrift b f.working dates) → (e g : ℕ) → e < length dates → g < length dates → date dates e ≤ date dates g + drift b c e g

@@ -1,14 +1,12 @@
 -- What the tests of the rules of one chart, or of one link, decide.
-use Rattle.std.specs.Prelude.{◌≡◌, ℕ, ◌+◌, ◌/◌, ◌%◌, ◌<◌, ◌≤◌, List, length, Some, None, Option, nat_lt, slice_index, slice_index_or}
+use Rattle.std.specs.Prelude.{ℕ, ◌+◌, ◌<◌, ◌≤◌, List, length, Some, None, Option, nat_lt, slice_index, slice_index_or}
 use Rattle.bookformat.specs.declared.value.Event.{Event}
 use Rattle.bookformat.specs.declared.value.Interval.{Interval}
 use Rattle.bookformat.specs.declared.value.Constraint.{Constraint}
-use Rattle.bookformat.specs.Values.{ChartValue, BookValue}
+use Rattle.bookformat.specs.Values.{BookValue}
 use Rattle.bookformat.specs.Rules.{no_constraint, DirectlyBefore}
-use Rattle.paths.specs.Charts.{event_count}
 use Rattle.paths.specs.Datings.{Within, drift_of}
-use Rattle.fullchart.specs.declared.FullChart.{FullChart}
-use Rattle.fullchart.specs.Finds.{FirstOn, LastOn, IsFull}
+use Rattle.fullchart.specs.Finds.{FirstOn, LastOn}
 
 -- the date of event e of a chart, whose dates are listed by event number
 abbrev pub date : List ℕ → ℕ → ℕ
@@ -34,13 +32,13 @@ FirstBroken cs dates (Some k) = (k < length cs) × (Holds cs dates k → ⊥) ×
 abbrev pub NamesDated : List Constraint → List ℕ → ℕ → Type 0
 NamesDated cs dates k = ((listed cs k).first < length dates) × ((listed cs k).second < length dates)
 
+-- P holds of all numbers below n
+abbrev pub AllBelow : ℕ → (ℕ → Type 0) → Type 0
+AllBelow n P = (k : ℕ) → k < n → P k
+
 -- P holds of all pairs of numbers below n
 abbrev pub AllPairs : ℕ → (ℕ → ℕ → Type 0) → Type 0
 AllPairs n P = (e f : ℕ) → e < n → f < n → P e f
-
--- P holds of the first p of these pairs, row by row
-abbrev pub FirstPairs : ℕ → (ℕ → ℕ → Type 0) → ℕ → Type 0
-FirstPairs n P p = (k : ℕ) → k < p → P (k / n) (k % n)
 
 -- an event directly before another is dated no later than it
 abbrev pub InOrder : List Event → List ℕ → ℕ → ℕ → Type 0
@@ -52,10 +50,8 @@ InDrift b working dates e f = date dates e ≤ date dates f + drift_of b (nat_lt
 
 -- every event that the tests of a chart look at is dated
 pub record Covered (es : List Event) (cs : List Constraint) (dates : List ℕ) : Type 0 where
-  pub few_events : length es ≤ 40
   pub events : length es ≤ length dates
   pub named : (k : ℕ) → k < length cs → NamesDated cs dates k
-  pub few_dates : length dates ≤ 48
 
 -- what all the tests of a chart together decide
 pub record Passes (b : BookValue) (es : List Event) (cs : List Constraint) (working : ℕ) (dates : List ℕ) : Type 0 where
@@ -64,10 +60,5 @@ pub record Passes (b : BookValue) (es : List Event) (cs : List Constraint) (work
   pub drift : AllPairs (length dates) (InDrift b working dates)
 
 -- the interval holds between the last event of station p in one full chart and its first in another
-abbrev pub StationKept : Interval → ℕ → List ℕ → List ℕ → List ℕ → List ℕ → Type 0
-StationKept i p before earlier after later = (e f : ℕ) → LastOn before p (Some e) → FirstOn after p (Some f) → Within i (date earlier e) (date later f)
-
--- a full chart of the book, with a date for each of its events
-pub record DatedChart (b : BookValue) (c : ChartValue) (f : FullChart) (dates : List ℕ) : Type 0 where
-  pub full : IsFull b c f
-  pub count : length dates ≡ event_count b c
+pub record StationKept (i : Interval) (p : ℕ) (before earlier after later : List ℕ) : Type 0 where
+  pub between : (e f : ℕ) → LastOn before p (Some e) → FirstOn after p (Some f) → Within i (date earlier e) (date later f)

@@ -2,16 +2,20 @@
 #![tactic(auto)]
 
 ghost use Rattle.std.specs.Prelude.{◌≡◌, ℕ, ◌<◌, ◌≤◌, length, Decides};
-ghost use Rattle.bookformat.specs.Values.{held, chart_value, book_value};
-ghost use Rattle.bookformat.specs.Rules.{chart, GoodBook};
-ghost use Rattle.paths.specs.Datings.{Within, KeepsChart, KeepsLink};
+ghost use Rattle.bookformat.specs.Books.{book_value};
+ghost use Rattle.bookformat.specs.Rules.{chart};
+ghost use Rattle.paths.specs.Datings.{Within, interval, KeepsChart, KeepsLink};
 ghost use Rattle.fullchart.specs.Finds.{IsFull};
-ghost use Rattle.rules.specs.Checks.{HoldBelow, FirstBroken, NamesDated, AllPairs, InOrder, InDrift};
-ghost use Rattle.rules.specs.Checks.{Covered, Passes, StationKept, DatedChart, date};
+ghost use Rattle.rules.specs.Checks.{HoldBelow, FirstBroken, NamesDated, AllBelow, AllPairs, InOrder, InDrift};
+ghost use Rattle.rules.specs.Checks.{Covered, Passes, StationKept, date};
 
-use bookformat::{Book, Chart, Constraint, Event, Interval, Link};
+use bookformat::{Book, Constraint, Event, Interval, Link};
 use chartorder::is_directly_before;
-use fullchart::{FullChart, first_on, last_on};
+use fullchart::{first_on, last_on};
+
+mod dated;
+
+pub use dated::DatedChart;
 
 /// Does `second` minus `first` lie in the interval?
 pub fn is_kept(interval: Interval, first: u32, second: u32) -> bool
@@ -19,11 +23,8 @@ pub fn is_kept(interval: Interval, first: u32, second: u32) -> bool
 {
     let first = u64::from(first);
     let second = u64::from(second);
-    let is_over = match interval.upper {
-        Some(upper) => second > first + u64::from(upper),
-        None => false,
-    };
-    second >= first + u64::from(interval.lower) && !is_over
+    let is_over = |upper: u16| second > first + u64::from(upper);
+    second >= first + u64::from(interval.lower) && !interval.upper.is_some_and(is_over)
 }
 
 /// Which constraint is the first that the dates of a chart break.
@@ -31,6 +32,7 @@ pub fn first_broken(constraints: &[Constraint], dates: &[u32]) -> Option<usize>
     requires { (k : ℕ) → k < length constraints.now → NamesDated constraints.now dates.now k }
     ensures { FirstBroken constraints.now dates.now result }
 {
+    // (A `for` that returns what it finds first: a form that the project fixes for its searches.)
     for (k, c) in constraints.iter().enumerate() {
         let first = dates[usize::from(c.first)];
         let second = dates[usize::from(c.second)];
@@ -57,132 +59,91 @@ fn is_in_order(events: &[Event], dates: &[u32], e: usize, f: usize) -> bool
     dates[e] <= dates[f] || !is_directly_before(events, e, f)
 }
 
+/// Is event `e` dated no later than each event that it is directly before?
+fn keeps_order_from(events: &[Event], dates: &[u32], e: usize) -> bool
+    requires { (e < length events.now) × (length events.now ≤ length dates.now) }
+    ensures { Decides result (AllBelow (length events.now) (InOrder events.now dates.now e)) }
+{
+    (0..events.len()).all(|f| is_in_order(events, dates, e, f))
+}
+
 /// Do the dates keep the order of the chart's events?
 fn keeps_order(events: &[Event], dates: &[u32]) -> bool
-    requires { (length events.now ≤ 40) × (length events.now ≤ length dates.now) }
+    requires { length events.now ≤ length dates.now }
     ensures { Decides result (AllPairs (length events.now) (InOrder events.now dates.now)) }
 {
-    let count = events.len();
-    for p in 0..count * count {
-        if !is_in_order(events, dates, p / count, p % count) {
-            return false;
-        }
-    }
-    true
+    (0..events.len()).all(|e| keeps_order_from(events, dates, e))
 }
 
 /// Is event `e` dated at most the drift bound after event `f`?
-fn is_in_drift(book: &Book, full: &FullChart, dates: &[u32], e: usize, f: usize) -> bool
-    requires { (e < length dates.now) × (f < length dates.now) }
-    ensures { Decides result (InDrift (book_value book.now) full.now.working dates.now e f) }
+fn is_in_drift(book: &Book, dated: &DatedChart, e: usize, f: usize) -> bool
+    requires { (e < length dated.now.dates.now) × (f < length dated.now.dates.now) }
+    ensures { Decides result (InDrift (book_value book.now) dated.now.full.now.working dated.now.dates.now e f) }
 {
-    u64::from(dates[e]) <= u64::from(dates[f]) + u64::from(full.drift(book, e, f))
+    let bound = dated.full.drift(book, e, f);
+    u64::from(dated.dates[e]) <= u64::from(dated.dates[f]) + u64::from(bound)
+}
+
+/// Is event `e` dated at most its drift bound after each other event?
+fn keeps_drift_from(book: &Book, dated: &DatedChart, e: usize) -> bool
+    requires { e < length dated.now.dates.now }
+    ensures { Decides result (AllBelow (length dated.now.dates.now) (InDrift (book_value book.now) dated.now.full.now.working dated.now.dates.now e)) }
+{
+    (0..dated.dates.len()).all(|f| is_in_drift(book, dated, e, f))
 }
 
 /// Do no two events of the full chart differ by more than their drift bound?
-fn keeps_drift(book: &Book, full: &FullChart, dates: &[u32]) -> bool
-    requires { length dates.now ≤ 48 }
-    ensures { Decides result (AllPairs (length dates.now) (InDrift (book_value book.now) full.now.working dates.now)) }
+fn keeps_drift(book: &Book, dated: &DatedChart) -> bool
+    ensures { Decides result (AllPairs (length dated.now.dates.now) (InDrift (book_value book.now) dated.now.full.now.working dated.now.dates.now)) }
 {
-    let count = dates.len();
-    for p in 0..count * count {
-        if !is_in_drift(book, full, dates, p / count, p % count) {
-            return false;
-        }
-    }
-    true
+    (0..dated.dates.len()).all(|e| keeps_drift_from(book, dated, e))
 }
 
 /// Does a link's interval hold between the station's last event before the link and its first after it?
-fn keeps_station(
-    interval: Interval,
-    station: u8,
-    before: &FullChart,
-    earlier: &[u32],
-    after: &FullChart,
-    later: &[u32],
-) -> bool
-    requires { (length (held before.now.stations) ≤ length earlier.now) × (length (held after.now.stations) ≤ length later.now) }
-    ensures { Decides result (StationKept interval station (held before.now.stations) earlier.now (held after.now.stations) later.now) }
+fn keeps_station(link: &Link, station: u8, before: &DatedChart, after: &DatedChart) -> bool
+    requires { station < 8 }
+    ensures { Decides result (StationKept (interval link.now station) station before.now.full.now.stations.items before.now.dates.now after.now.full.now.stations.items after.now.dates.now) }
 {
-    let last = last_on(before.stations.as_slice(), station);
-    let first = first_on(after.stations.as_slice(), station);
+    let interval = link.intervals[usize::from(station)];
+    let last = last_on(&before.full.stations, station);
+    let first = first_on(&after.full.stations, station);
     match (last, first) {
-        (Some(e), Some(f)) => is_kept(interval, earlier[e], later[f]),
+        (Some(e), Some(f)) => is_kept(interval, before.dates[e], after.dates[f]),
         _ => true,
     }
 }
 
-/// Does each interval of the link hold, with the charts that it leaves and enters dated so?
-pub fn keeps_link(
-    book: &Book,
-    link: &Link,
-    before: &FullChart,
-    earlier: &[u32],
-    after: &FullChart,
-    later: &[u32],
-) -> bool
-    requires few { book.now.stations ≤ 8 }
-    requires left { DatedChart (book_value book.now) (chart (book_value book.now) link.now.from) before.now earlier.now }
-    requires entered { DatedChart (book_value book.now) (chart (book_value book.now) link.now.to) after.now later.now }
-    ensures { Decides result (KeepsLink (book_value book.now) link.now (chart (book_value book.now) link.now.from) (chart (book_value book.now) link.now.to) (date earlier.now) (date later.now)) }
+/// Does each interval of the link hold, between the chart that it leaves and the one that it enters?
+pub fn keeps_link(book: &Book, link: &Link, before: &DatedChart, after: &DatedChart) -> bool
+    requires left { IsFull (book_value book.now) (chart (book_value book.now) link.now.from) before.now.full.now }
+    requires entered { IsFull (book_value book.now) (chart (book_value book.now) link.now.to) after.now.full.now }
+    ensures { Decides result (KeepsLink (book_value book.now) link.now (chart (book_value book.now) link.now.from) (chart (book_value book.now) link.now.to) (date before.now.dates.now) (date after.now.dates.now)) }
 {
-    for p in 0..book.stations {
-        let interval = link.intervals[usize::from(p)];
-        if !keeps_station(interval, p, before, earlier, after, later) {
+    // (A `for`: with `all` over the stations, or a zip with the intervals, the proof was tried and not found.)
+    for station in 0..book.stations {
+        if !keeps_station(link, station, before, after) {
             return false;
         }
     }
     true
 }
 
-/// The chart with a number.
-fn chart_of(book: &Book, number: usize) -> &Chart
-    requires { number < length (book_value book.now).charts }
-    ensures { chart_value result.now ≡ chart (book_value book.now) number }
-{
-    &book.charts.as_slice()[number]
-}
-
-/// The full chart with a number.
-pub fn full_chart(book: &Book, number: usize) -> FullChart
-    requires few { book.now.stations ≤ 8 }
-    requires exists { number < length (book_value book.now).charts }
-    ensures { IsFull (book_value book.now) (chart (book_value book.now) number) result }
-{
-    FullChart::of(book, chart_of(book, number))
-}
-
 /// Do the dates of a chart's events pass the tests of all its rules?
-fn passes_all(
-    book: &Book,
-    events: &[Event],
-    constraints: &[Constraint],
-    full: &FullChart,
-    dates: &[u32],
-) -> bool
-    requires { Covered events.now constraints.now dates.now }
-    ensures { Decides result (Passes (book_value book.now) events.now constraints.now full.now.working dates.now) }
+fn passes_all(book: &Book, events: &[Event], constraints: &[Constraint], dated: &DatedChart) -> bool
+    requires { Covered events.now constraints.now dated.now.dates.now }
+    ensures { Decides result (Passes (book_value book.now) events.now constraints.now dated.now.full.now.working dated.now.dates.now) }
 {
-    if !keeps_order(events, dates) {
-        return false;
-    }
-    keeps_constraints(constraints, dates) && keeps_drift(book, full, dates)
+    keeps_order(events, dated.dates)
+        && keeps_constraints(constraints, dated.dates)
+        && keeps_drift(book, dated)
 }
 
 /// Do the dates keep the rules of the chart with a number?
-pub fn keeps_chart(book: &Book, number: usize, full: &FullChart, dates: &[u32]) -> bool
-    requires good { GoodBook (book_value book.now) }
+pub fn keeps_chart(book: &Book, number: usize, dated: &DatedChart) -> bool
     requires exists { number < length (book_value book.now).charts }
-    requires dated { DatedChart (book_value book.now) (chart (book_value book.now) number) full.now dates.now }
-    ensures { Decides result (KeepsChart (book_value book.now) (chart (book_value book.now) number) (date dates.now)) }
+    requires full { IsFull (book_value book.now) (chart (book_value book.now) number) dated.now.full.now }
+    ensures { Decides result (KeepsChart (book_value book.now) (chart (book_value book.now) number) (date dated.now.dates.now)) }
 {
-    let chart = chart_of(book, number);
-    passes_all(
-        book,
-        chart.events.as_slice(),
-        chart.constraints.as_slice(),
-        full,
-        dates,
-    )
+    let chart = book.chart(number);
+    passes_all(book, &chart.events, &chart.constraints, dated)
 }

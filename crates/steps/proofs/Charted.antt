@@ -1,18 +1,17 @@
 -- What a filled table says of a chart, and what is read out of it when it is closed.
-use Rattle.std.proofs.Common.{◌≡◌, ℕ, ◌+◌, ◌*◌, ◌/◌, ◌%◌, ◌<◌, ◌≤◌, ltb, ◌⊎◌, ◌↔◌, List, length, get_or, ℤ, pos, Some, None, sym, ap, ◌∙◌, subst, ap₂, inl, inr, arith}
+use Rattle.std.proofs.Common.{◌≡◌, ℕ, ◌+◌, ◌*◌, ◌/◌, ◌%◌, ◌<◌, ◌≤◌, ltb, ◌⊎◌, ◌↔◌, List, length, get_or, ℤ, pos, Some, None, sym, ap, ◌∙◌, subst, inl, inr, arith}
 use native.Mathlib.Nat.{div-add-mod}
 use native.Mathlib.Decide.{dec_lt}
-use lib.ListN.{length-map}
 use Rattle.std.proofs.lemmas.Int.{ints}
-use Rattle.std.proofs.lemmas.List.{get_or-map}
 use Rattle.std.proofs.lemmas.Nat.{div_below, mod_below}
 use Rattle.bookformat.specs.declared.value.Event.{Event}
 use Rattle.bookformat.specs.declared.value.Constraint.{Constraint}
-use Rattle.bookformat.specs.declared.value.Chart.{Chart}
-use Rattle.bookformat.specs.declared.value.Book.{Book}
-use Rattle.bookformat.specs.Values.{ChartValue, BookValue, held, chart_value, book_value}
-use Rattle.bookformat.specs.Rules.{no_chart, chart, GoodChart, GoodBook}
-use Rattle.closure.specs.declared.kinds.Ticks.{Ticks}
+use Rattle.bookformat.specs.Values.{ChartValue, BookValue}
+use Rattle.bookformat.specs.declared.value.Link.{Link}
+use Rattle.bookformat.specs.declared.book.Book.{Book}
+use Rattle.bookformat.specs.Books.{book_value}
+use Rattle.bookformat.specs.Rules.{link, GoodChart, GoodLink, GoodBook}
+use Rattle.bookformat.proofs.Known.{is_good}
 use Rattle.closure.specs.Tickings.{WithinTicks}
 use Rattle.fullchart.specs.declared.FullChart.{FullChart}
 use Rattle.fullchart.specs.Finds.{NotBelow, LastOn, IsFull}
@@ -20,56 +19,43 @@ use Rattle.paths.specs.Charts.{event_stations, event_count, Last}
 use Rattle.paths.specs.Datings.{drift_of, drift, KeepsChart}
 use Rattle.paths.specs.Profiles.{Lasts, Largest, WithinFar}
 use Rattle.paths.specs.Tables.{Table, Says, ShortestWalks, Reads, TableDecides}
-use Rattle.paths.proofs.Facts.{ChartFacts, chart_facts}
+use Rattle.paths.proofs.Facts.{ChartFacts}
 use Rattle.paths.proofs.Full.{last_event, working_exists}
-use Rattle.steps.specs.Fillings.{table_of, Blank, Adds}
+use Rattle.steps.specs.declared.bounds.Bounds.{Bounds}
+use Rattle.steps.specs.Fillings.{places, table, Blank, Adds}
 use Rattle.steps.specs.Parts.{OrderKept, ConstraintsKept, Enterable, DriftsKept, entries_of}
 use Rattle.steps.specs.Readings.{Readable, ProfileRead, ClosedRead}
 use Rattle.profile.specs.Ranges.{InRange}
-use Rattle.steps.specs.Answers.{ChartOf, Tidy}
-use Rattle.steps.proofs.Filled.{adds_like, adds_then}
+use Rattle.steps.specs.Answers.{Tidy}
+use Rattle.steps.proofs.Filled.{usable_of, adds_like, adds_then}
 
-pub facts_of : (b : BookValue) → GoodBook b → (c : ChartValue) → ChartOf b c → ChartFacts b c
-facts_of b good c (k, h, is) = subst (ChartFacts b) is (chart_facts b good k)
+-- the link that is read with a number
+pub good_link : (b : Book) {k : ℕ} {l : Link} → l ≡ link (book_value b) k → k < length b.links.items → GoodLink (book_value b) l
+good_link b {k} {l} is h = subst (GoodLink (book_value b)) (sym is) ((is_good b).links k h)
 
-pub good_of : (b : BookValue) → GoodBook b → (c : ChartValue) → ChartOf b c → GoodChart b.stations c
-good_of b good c (k, h, is) = subst (GoodChart b.stations) is (good.charts k h)
-
--- the chart that is read with a number
-pub chart_read : (b : Book) (k : ℕ) (l : List Chart) (x : Chart) (i : ℕ) → k < length (book_value b).charts → l ≡ held b.charts → i ≡ k → x ≡ get_or l i x → chart_value x ≡ chart (book_value b) k
-chart_read b k l x i lt e is found =
-    ap chart_value (found ∙ ap₂ (λ (y : List Chart) j. get_or y j x) e is) ∙ sym (get_or-map chart_value (held b.charts) k x no_chart (omega (arith, length-map (held b.charts) chart_value)))
-
--- a filled table says what was added
-pub says : (n : ℕ) (l m : List Ticks) (R K : (ℕ → ℕ) → Type 0) → Blank n l → Adds n l m R → ((z : ℕ → ℕ) → R z ↔ K z) → Says n K (table_of n m)
-says n l m R K blank adds same = record {
-  own = adds.usable.own;
+-- filled bounds say what was added
+pub says : (s t : Bounds) (R K : (ℕ → ℕ) → Type 0) → Blank s → Adds s t R → ((z : ℕ → ℕ) → R z ↔ K z) → Says (places t) K (table t)
+says s t R K blank adds same = record {
+  own = (usable_of t).own;
   exact = λ z. (λ h. (adds.exact z).1 (blank.kept z, (same z).1 h), λ h. (same z).0 ((adds.exact z).0 h).1);
 }
 
 -- Filling
 
--- the working events are among all
-count_all : (b : BookValue) (c : ChartValue) → length c.events ≤ event_count b c
-count_all b c = elim (dec_lt (event_count b c) (length c.events)) [ yes h ↦ absurd (omega (arith, working_exists b c (event_count b c) h)) | no h ↦ omega arith ]
-
-module _ (b : BookValue) (c : ChartValue) (facts : ChartFacts b c) (full : FullChart) (is : IsFull b c full) (first n : ℕ) where
-  pub count_is : length (held full.stations) ≡ event_count b c
+module _ {b : BookValue} {c : ChartValue} (facts : ChartFacts b c) {full : FullChart} (is : IsFull b c full) (first : ℕ) where
+  pub count_is : length full.stations.items ≡ event_count b c
   count_is = ap length is.stations
 
-  pub events_inside : first + event_count b c ≤ n → (es : List Event) → es ≡ c.events → first + length es ≤ n
-  events_inside inside es e = omega (arith, ap length e, count_all b c)
-
-  each : GoodChart b.stations c → first + event_count b c ≤ n → (k : ℕ) → k < length c.constraints → Enterable n c.constraints first k
+  each : {n : ℕ} → GoodChart b.stations c → first + event_count b c ≤ n → (k : ℕ) → k < length c.constraints → Enterable n c.constraints first k
   each good inside k h =
       let named = facts.named k h in
       record { first_inside = omega (arith, working_exists b c _ named.0); second_inside = omega (arith, working_exists b c _ named.1); proper = good.proper k h }
 
-  pub enterable : GoodChart b.stations c → first + event_count b c ≤ n → (cs : List Constraint) → cs ≡ c.constraints → (k : ℕ) → k < length cs → Enterable n cs first k
-  enterable good inside cs e = subst (λ (x : List Constraint). (k : ℕ) → k < length x → Enterable n x first k) (sym e) (each good inside)
+  pub enterable : {n : ℕ} → GoodChart b.stations c → first + event_count b c ≤ n → {cs : List Constraint} → cs ≡ c.constraints → (k : ℕ) → k < length cs → Enterable n cs first k
+  enterable {n} good inside {cs} e = subst (λ (x : List Constraint). (k : ℕ) → k < length x → Enterable n x first k) (sym e) (each good inside)
 
   abbrev Parts : (ℕ → ℕ) → Type 0
-  Parts z = (OrderKept c.events first z × ConstraintsKept c.constraints first z) × DriftsKept b full.working (length (held full.stations)) first z
+  Parts z = (OrderKept c.events first z × ConstraintsKept c.constraints first z) × DriftsKept b full.working (length full.stations.items) first z
 
   drift_is : (e f : ℕ) → drift_of b (ltb e full.working) (ltb f full.working) ≡ drift b c e f
   drift_is e f = ap (λ w. drift_of b (ltb e w) (ltb f w)) is.working
@@ -77,12 +63,12 @@ module _ (b : BookValue) (c : ChartValue) (facts : ChartFacts b c) (full : FullC
   whole : (z : ℕ → ℕ) → Parts z ↔ KeepsChart b c (λ e. z (first + e))
   whole z = (
     λ h. record {
-      order = λ e f q. let r = facts.order e f q in h.0.0 e f r.0 r.1 q;
+      order = λ e f q. let r = facts.order e f q in h.0.0 e r.0 f r.1 q;
       constraints = h.0.1;
-      near = λ e f p q. omega (arith, drift_is e f, h.1 e f (omega (arith, count_is, working_exists b c e p)) (omega (arith, count_is, working_exists b c f q)));
-      far = λ e f p. omega (arith, drift_is e f, h.1 e f (omega (arith, count_is, p.first_exists)) (omega (arith, count_is, p.second_exists)));
+      near = λ e f p q. omega (arith, drift_is e f, h.1 e (omega (arith, count_is, working_exists b c e p)) f (omega (arith, count_is, working_exists b c f q)));
+      far = λ e f p. omega (arith, drift_is e f, h.1 e (omega (arith, count_is, p.first_exists)) f (omega (arith, count_is, p.second_exists)));
     },
-    λ h. ((λ e f p q d. h.order e f d, h.constraints), λ e f p q. drifts h e f (omega (arith, count_is)) (omega (arith, count_is))),
+    λ h. ((λ e p f q d. h.order e f d, h.constraints), λ e p f q. drifts h e f (omega (arith, count_is)) (omega (arith, count_is))),
   )
     where
       drifts : KeepsChart b c (λ e. z (first + e)) → (e f : ℕ) → e < event_count b c → f < event_count b c → z (first + e) ≤ z (first + f) + drift_of b (ltb e full.working) (ltb f full.working)
@@ -97,13 +83,11 @@ module _ (b : BookValue) (c : ChartValue) (facts : ChartFacts b c) (full : FullC
           silent : (length c.events ≤ e) ⊎ (length c.events ≤ f) → z (first + e) ≤ z (first + f) + drift_of b (ltb e full.working) (ltb f full.working)
           silent s = omega (arith, drift_is e f, h.far e f (record { first_exists = p; second_exists = q; silent = s }))
 
-  pub chart_added : (l k m o : List Ticks) (es : List Event) (cs : List Constraint) → es ≡ c.events → cs ≡ c.constraints → Adds n l k (OrderKept es first) → Adds n k m (ConstraintsKept cs first) → Adds n m o (DriftsKept b full.working (length (held full.stations)) first) → Adds n l o (λ z. KeepsChart b c (λ e. z (first + e)))
-  chart_added l k m o es cs ees ecs one two three =
-      let one' = subst (λ (x : List Event). Adds n l k (OrderKept x first)) ees one in
-      let two' = subst (λ (x : List Constraint). Adds n k m (ConstraintsKept x first)) ecs two in
-      let both = adds_then n l k (OrderKept c.events first) one' m (ConstraintsKept c.constraints first) two' in
-      let all = adds_then n l m (λ z. OrderKept c.events first z × ConstraintsKept c.constraints first z) both o (DriftsKept b full.working (length (held full.stations)) first) three in
-      adds_like n l o Parts all (λ z. KeepsChart b c (λ e. z (first + e))) whole
+  pub chart_added : {s t u v : Bounds} {es : List Event} {cs : List Constraint} → es ≡ c.events → cs ≡ c.constraints → Adds s t (OrderKept es first) → Adds t u (ConstraintsKept cs first) → Adds u v (DriftsKept b full.working (length full.stations.items) first) → Adds s v (λ z. KeepsChart b c (λ e. z (first + e)))
+  chart_added {s} {t} {u} ees ecs one two three =
+      let one' = subst (λ (x : List Event). Adds s t (OrderKept x first)) ees one in
+      let two' = subst (λ (x : List Constraint). Adds t u (ConstraintsKept x first)) ecs two in
+      adds_like (adds_then (adds_then one' two') three) whole
 
 -- Reading
 

@@ -1,23 +1,50 @@
--- Tables that are filled bound by bound.
-use Rattle.std.proofs.Common.{◌≡◌, ℕ, ◌+◌, ◌*◌, ◌/◌, ◌%◌, ◌<◌, ◌≤◌, Bool, true, false, cond, eqb, ◌≢◌, ◌↔◌, List, length, get_or, set, ℤ, pos, neg_ℤ, ◌≤ℤ◌, Some, None, Option, sym, refl, ap, ◌∙◌, subst, ap₂, subst₂, mul-le-mul, zero-mul, arith, length-set, w32, SFits, to_z, of_z, below_more, MatchOption}
+-- Bounds that are added one by one.
+use Rattle.std.proofs.Common.{◌≡◌, ℕ, ◌+◌, ◌*◌, ◌/◌, ◌%◌, ◌<◌, Bool, true, false, cond, eqb, ◌↔◌, List, length, set, ℤ, pos, neg_ℤ, ◌+ℤ◌, ◌≤ℤ◌, Some, None, Option, sym, refl, ap, ◌∙◌, subst, ap₂, subst₂, arith, length-set, w32, SFits, to_z, of_z, below_more, MatchOption}
+use mathlib.Core.Logic.{∥∥₁_elim}
+use mathlib.Core.HLevel.{⊥_prop}
 use native.Mathlib.Decide.{ℕ_discrete}
 use Rattle.std.proofs.lemmas.List.{get_or-map}
-use Rattle.std.proofs.lemmas.Int.{ints, to_z-of_z}
-use Rattle.std.proofs.lemmas.Nat.{div-mul-add, mod-mul-add, div_below, mod_below}
+use Rattle.std.proofs.lemmas.Int.{ints, by_lt_z, to_z-of_z}
+use Rattle.std.proofs.lemmas.Nat.{div-mul-add, mod-mul-add}
 use Rattle.std.proofs.lemmas.Bool.{eq-eqb, ne_eqb}
 use Rattle.bookformat.specs.declared.value.Interval.{Interval}
 use Rattle.closure.specs.declared.kinds.Ticks.{Ticks}
-use Rattle.closure.specs.Closings.{weight_at, Sized, GivenBefore}
+use Rattle.closure.specs.Closings.{weight_at, Sized, Filled}
 use Rattle.closure.specs.Tickings.{fewer, ticks_reach, ticks_value, ticks_meaning, WithinTicks}
 use Rattle.closure.proofs.Entries.{place_below, same_row, same_column, write_same, write_other}
 use Rattle.paths.specs.Datings.{Within}
-use Rattle.paths.specs.Profiles.{difference}
-use Rattle.paths.specs.Tables.{lesser, Tightens}
+use Rattle.paths.specs.Bounds.{Keeps}
+use Rattle.paths.specs.Tables.{Entry, lesser, Tightens}
 use Rattle.paths.proofs.Filled as theory
-use Rattle.steps.specs.Fillings.{table_of, Usable, blank_weight, Blank, Adds, Tightened}
+use Rattle.steps.specs.declared.bounds.Bounds.{Bounds}
+use Rattle.steps.specs.Tables.{table_of, Usable, blank_weight}
+use Rattle.steps.specs.Fillings.{places, table, KeepsBounds, Adds, AtMost}
 
-pub square : (n : ℕ) → n ≤ 54 → n * n ≤ 2916
-square n h = mul-le-mul h h
+-- What the type of bounds says
+
+-- an order of numbers that does not fail holds
+stable : (x y : ℤ) → ((x ≤ℤ y → ⊥) → ⊥) → x ≤ℤ y
+stable x y h = by_lt_z y x (λ lt. absurd (h (λ le. grind (arith, ints)))) (λ ge. grind (arith, ints))
+
+reached : (a : Option ℤ) → ((ticks_reach 1 a → ⊥) → ⊥) → ticks_reach 1 a
+reached None h = tt
+reached (Some a) h = (stable a (pos 10000) (λ no. h (λ r. no r.0)), stable (pos 0) (a +ℤ pos 10000) (λ no. h (λ r. no r.1)))
+
+owned : (a : Option ℤ) → (((w : ℤ) × (a ≡ Some w) × (w ≤ℤ pos 0) → ⊥) → ⊥) → (w : ℤ) × (a ≡ Some w) × (w ≤ℤ pos 0)
+owned None h = absurd (h (λ x. let e = x.1 in let z : ◌≡◌ {A = ℕ} 0 1 = cc in absurd (omega arith)))
+owned (Some a) h = (a, refl, stable a (pos 0) (λ no. h (λ x. let e = x.1 in let s : x.0 ≡ a = cc in no (subst (λ w. w ≤ℤ pos 0) s x.2))))
+
+-- both facts of the entries can be tested, so what is known to be usable is
+usable_known : (n : ℕ) (l : List Ticks) → Sized n l → ∥ Usable n l ∥₁ → Usable n l
+usable_known n l sized known = record {
+  sized = sized;
+  given = λ k h. reached (weight_at ticks_meaning l k) (λ no. ∥∥₁_elim known ⊥_prop (λ u. no (u.given k h)));
+  own = λ i h. owned (table_of n l i i) (λ no. ∥∥₁_elim known ⊥_prop (λ u. no (u.own i h)));
+}
+
+-- bounds can be closed
+pub usable_of : (s : Bounds) → Usable s.table.places s.table.weights.now
+usable_of s = usable_known s.table.places s.table.weights.now s.table.sized s.usable
 
 -- One entry
 
@@ -29,64 +56,56 @@ lesser_old : (a : Option ℤ) (w : ℤ) → fewer (Some w) a ≡ false → a ≡
 lesser_old None w e = let z : ◌≡◌ {A = ℕ} 0 1 = cc in absurd (omega arith)
 lesser_old (Some u) w e = ap (λ (v : Bool). Some (cond v w u)) (sym e)
 
-module _ (n : ℕ) (l : List Ticks) (i j : ℕ) (w : ℤ) (usable : Usable n l) (hi : i < n) (hj : j < n) where
-  abbrev at : ℕ
-  at = i * n + j
-
-  within : at < length l
-  within = omega (arith, usable.sized.1, place_below n i j hi hj)
-
-  adds : (m : List Ticks) → Sized n m → GivenBefore ticks_meaning m (length m) → Tightens n (table_of n l) i j w (table_of n m) → Adds n l m (λ z. difference (z j) (z i) ≤ℤ w)
-  adds m sized given t = record {
-    usable = record { sized = sized; given = given; own = theory.tighten_own n (table_of n l) i j w (table_of n m) t usable.own };
-    exact = theory.tighten n (table_of n l) i j w (table_of n m) hi hj t;
-  }
-
-  -- the entry stays
-  pub kept : fewer (Some w) (table_of n l i j) ≡ false → Adds n l l (λ z. difference (z j) (z i) ≤ℤ w)
-  kept e = adds l usable.sized usable.given (record { here = lesser_old (table_of n l i j) w e; elsewhere = λ k m hk hm s. refl })
-
-  -- the entry is written
-  module _ (t : Ticks) (is : ticks_value t ≡ Some w) (small : WithinTicks 10000 w) where
-    given : (k : ℕ) → k < length (set l at t) → ticks_reach 1 (weight_at ticks_meaning (set l at t) k)
-    given k h = elim (ℕ_discrete k at) [
-      | yes e ↦ subst (λ q. ticks_reach 1 (weight_at ticks_meaning (set l at t) q)) (sym e) (subst (ticks_reach 1) (sym (write_same ticks_meaning l at t within ∙ is)) small)
-      | no e ↦ subst (ticks_reach 1) (sym (write_other ticks_meaning l at k t e)) (usable.given k (omega (arith, length-set l at t)))
-    ]
-
-    pub written : fewer (Some w) (table_of n l i j) ≡ true → Adds n l (set l at t) (λ z. difference (z j) (z i) ≤ℤ w)
-    written e = adds (set l at t) (usable.sized.0, length-set l at t ∙ usable.sized.1) given (record {
-      here = write_same ticks_meaning l at t within ∙ is ∙ lesser_new (table_of n l i j) w e;
-      elsewhere = λ k m hk hm s. write_other ticks_meaning l at (k * n + m) t (λ q. s (same_row n k m i j hm hj q, same_column n k m i j hm hj q));
-    })
-
--- what stands at the entry's position
-pub entry_is : (n : ℕ) (l : List Ticks) (i j p : ℕ) (d : Ticks) → Sized n l → i < n → j < n → p ≡ i * n + j → table_of n l i j ≡ ticks_value (get_or l p d)
-entry_is n l i j p d sized hi hj e = ap (weight_at ticks_meaning l) (sym e) ∙ get_or-map ticks_value l p d None (omega (arith, sized.1, place_below n i j hi hj))
+abbrev KeepsTable : ℕ → List Ticks → (ℕ → ℕ) → Type 0
+KeepsTable n l z = Keeps (Entry n (table_of n l)) z
 
 -- the number that was made into ticks, to its bits and back
-pub made : (o : Option Ticks) (w : ℤ) (t : Ticks) → SFits w32 w → o ≡ Some t → MatchOption o (WithinTicks 10000 (to_z w32 (of_z w32 w)) → ⊥) (λ u. WithinTicks 10000 (to_z w32 (of_z w32 w)) × (ticks_value u ≡ Some (to_z w32 (of_z w32 w)))) → ticks_value t ≡ Some w
-made (Some u) w t fits e h = let s : t ≡ u = cc in ap ticks_value s ∙ h.1 ∙ ap Some (to_z-of_z w32 w fits)
-made None w t fits e h = let z : ◌≡◌ {A = ℕ} 0 1 = cc in absurd (omega arith)
+pub made : {o : Option Ticks} {w : ℤ} {t : Ticks} → SFits w32 w → o ≡ Some t → MatchOption o (WithinTicks 10000 (to_z w32 (of_z w32 w)) → ⊥) (λ u. WithinTicks 10000 (to_z w32 (of_z w32 w)) × (ticks_value u ≡ Some (to_z w32 (of_z w32 w)))) → ticks_value t ≡ Some w
+made {o = Some u} {w} {t} fits e h = let s : t ≡ u = cc in ap ticks_value s ∙ h.1 ∙ ap Some (to_z-of_z w32 w fits)
+made {o = None} {w} {t} fits e h = let z : ◌≡◌ {A = ℕ} 0 1 = cc in absurd (omega arith)
 
-module _ (n : ℕ) (l : List Ticks) (i j : ℕ) (w : ℤ) (p : ℕ) (t d : Ticks) (usable : Usable n l) (hi : i < n) (hj : j < n) where
-  pub tightened : WithinTicks 10000 w → p ≡ i * n + j → ticks_value t ≡ Some w → fewer (ticks_value t) (ticks_value (get_or l p d)) ≡ true → Tightened n l (set l p t) i j w
-  tightened small e is better =
-      subst (λ q. Tightened n l (set l q t) i j w) (sym e) (record { adds = written n l i j w usable hi hj t is small (ap₂ fewer (sym is) (entry_is n l i j p d usable.sized hi hj e) ∙ better) })
+module _ (s : Bounds) (i j : ℕ) (w : ℤ) (t : Ticks) {a : Option ℤ} (inside : (i < places s) × (j < places s)) (is : ticks_value t ≡ Some w) (here : a ≡ table s i j) where
+  -- the entry stays
+  pub kept : fewer (ticks_value t) a ≡ false → Adds s s (AtMost i j w)
+  kept e = record {
+    places = refl;
+    exact = theory.tighten (places s) (table s) i j w (table s) inside.0 inside.1 (record { here = lesser_old (table s i j) w (ap₂ fewer (sym is) (sym here) ∙ e); elsewhere = λ k m hk hm q. refl });
+  }
 
-  pub left_as_is : p ≡ i * n + j → ticks_value t ≡ Some w → fewer (ticks_value t) (ticks_value (get_or l p d)) ≡ false → Tightened n l l i j w
-  left_as_is e is better = record { adds = kept n l i j w usable hi hj (ap₂ fewer (sym is) (entry_is n l i j p d usable.sized hi hj e) ∙ better) }
+  -- the entry is written
+  module _ (better : fewer (ticks_value t) a ≡ true) where
+    abbrev at : ℕ
+    at = i * places s + j
 
--- A table that asks nothing
+    within : at < length s.table.weights.now
+    within = omega (arith, s.table.sized.1, place_below (places s) i j inside.0 inside.1)
 
-abbrev pub BlankBelow : ℕ → ℕ → List Ticks → Type 0
-BlankBelow n m l = (k : ℕ) → k < m → weight_at ticks_meaning l k ≡ blank_weight (k / n) (k % n)
+    tightens : Tightens (places s) (table s) i j w (table_of (places s) (set s.table.weights.now at t))
+    tightens = record {
+      here = write_same ticks_meaning s.table.weights.now at t within ∙ is ∙ lesser_new (table s i j) w (ap₂ fewer (sym is) (sym here) ∙ better);
+      elsewhere = λ k m hk hm q. write_other ticks_meaning s.table.weights.now at (k * places s + m) t (λ e. q (same_row (places s) k m i j hm inside.1 e, same_column (places s) k m i j hm inside.1 e));
+    }
 
-pub blank_more : (n p : ℕ) (l : List Ticks) (t : Ticks) → p < length l → ticks_value t ≡ blank_weight (p / n) (p % n) → BlankBelow n p l → BlankBelow n (p + 1) (set l p t)
-blank_more n p l t h is below =
-    below_more (λ k. weight_at ticks_meaning (set l p t) k ≡ blank_weight (k / n) (k % n)) p
-    (λ k lt. let ne : k ≢ p = omega arith in write_other ticks_meaning l p k t ne ∙ below k lt)
-    (write_same ticks_meaning l p t h ∙ is)
+    usable : WithinTicks 10000 w → Usable (places s) (set s.table.weights.now at t)
+    usable small = record {
+      sized = (s.table.sized.0, length-set s.table.weights.now at t ∙ s.table.sized.1);
+      given = λ k h. elim (ℕ_discrete k at) [
+        | yes e ↦ subst (λ q. ticks_reach 1 (weight_at ticks_meaning (set s.table.weights.now at t) q)) (sym e) (subst (ticks_reach 1) (sym (write_same ticks_meaning s.table.weights.now at t within ∙ is)) small)
+        | no e ↦ subst (ticks_reach 1) (sym (write_other ticks_meaning s.table.weights.now at k t e)) ((usable_of s).given k (omega (arith, length-set s.table.weights.now at t)))
+      ];
+      own = theory.tighten_own (places s) (table s) i j w (table_of (places s) (set s.table.weights.now at t)) tightens (usable_of s).own;
+    }
+
+    pub still_usable : WithinTicks 10000 w → {m : ℕ} {k : List Ticks} → m ≡ places s → k ≡ set s.table.weights.now at t → Usable m k
+    still_usable small same written = subst₂ Usable (sym same) (sym written) (usable small)
+
+    pub tightened : {o : Bounds} → places o ≡ places s → o.table.weights.now ≡ set s.table.weights.now at t → Adds s o (AtMost i j w)
+    tightened same written = record {
+      places = same;
+      exact = λ z. subst₂ (λ m k. KeepsTable m k z ↔ (KeepsBounds s z × AtMost i j w z)) (sym same) (sym written) (theory.tighten (places s) (table s) i j w (table_of (places s) (set s.table.weights.now at t)) inside.0 inside.1 tightens z);
+    }
+
+-- Bounds that ask nothing
 
 blank_given : (i j : ℕ) → ticks_reach 1 (blank_weight i j)
 blank_given i j = go (eqb i j)
@@ -108,65 +127,54 @@ blank_some i j w e = go (ℕ_discrete i j)
         let g : ◌≡◌ {A = ℕ} 0 1 = cc in
         absurd (omega arith)
 
-pub blank_is : (n : ℕ) (l : List Ticks) → Sized n l → BlankBelow n (length l) l → Blank n l
-blank_is n l sized below = record {
-  usable = record { sized = sized; given = λ k h. subst (ticks_reach 1) (sym (below k h)) (blank_given (k / n) (k % n)); own = λ i h. (pos 0, at i i h h ∙ ap (λ (v : Bool). cond v (Some (pos 0)) None) (eq-eqb i i refl), omega (arith, ints)) };
-  kept = λ z i j w (hi, hj, e). let s = blank_some i j w (sym (at i j hi hj) ∙ e) in omega (arith, ints, ap z s.0, s.1);
-}
-  where
-    at : (i j : ℕ) → i < n → j < n → table_of n l i j ≡ blank_weight i j
-    at i j hi hj = below (i * n + j) (omega (arith, sized.1, place_below n i j hi hj)) ∙ ap₂ blank_weight (div-mul-add i n j hj) (mod-mul-add i n j hj)
+module _ (n : ℕ) (l : List Ticks) (sized : Sized n l) (filled : Filled (λ i j t. ticks_value t ≡ blank_weight i j) n l) where
+  weight_is : (k : ℕ) → k < length l → weight_at ticks_meaning l k ≡ blank_weight (k / n) (k % n)
+  weight_is k h = let d : Ticks = record { count = pos 0 } in get_or-map ticks_value l k d None h ∙ filled k d h
+
+  blank_at : (i j : ℕ) → i < n → j < n → table_of n l i j ≡ blank_weight i j
+  blank_at i j hi hj = weight_is (i * n + j) (omega (arith, sized.1, place_below n i j hi hj)) ∙ ap₂ blank_weight (div-mul-add i n j hj) (mod-mul-add i n j hj)
+
+  pub blank_usable : Usable n l
+  blank_usable = record {
+    sized = sized;
+    given = λ k h. subst (ticks_reach 1) (sym (weight_is k h)) (blank_given (k / n) (k % n));
+    own = λ i h. (pos 0, blank_at i i h h ∙ ap (λ (v : Bool). cond v (Some (pos 0)) None) (eq-eqb i i refl), omega (arith, ints));
+  }
+
+  pub blank_kept : (z : ℕ → ℕ) → KeepsTable n l z
+  blank_kept z i j w (hi, hj, e) = let s = blank_some i j w (sym (blank_at i j hi hj) ∙ e) in omega (arith, ints, ap z s.0, s.1)
 
 -- One addition after another
 
-module _ (n : ℕ) (l : List Ticks) where
-  pub adds_nothing : (R : (ℕ → ℕ) → Type 0) → Usable n l → ((z : ℕ → ℕ) → R z) → Adds n l l R
-  adds_nothing R usable r = record { usable = usable; exact = λ z. (λ h. (h, r z), λ h. h.0) }
+pub adds_like : {s t : Bounds} {R S : (ℕ → ℕ) → Type 0} → Adds s t R → ((z : ℕ → ℕ) → R z ↔ S z) → Adds s t S
+adds_like one same = record { places = one.places; exact = λ z. (λ h. let k = (one.exact z).0 h in (k.0, (same z).0 k.1), λ h. (one.exact z).1 (h.0, (same z).1 h.1)) }
 
-  module _ (m : List Ticks) (R : (ℕ → ℕ) → Type 0) (one : Adds n l m R) where
-    pub adds_like : (S : (ℕ → ℕ) → Type 0) → ((z : ℕ → ℕ) → R z ↔ S z) → Adds n l m S
-    adds_like S same = record { usable = one.usable; exact = λ z. (λ h. let k = (one.exact z).0 h in (k.0, (same z).0 k.1), λ h. (one.exact z).1 (h.0, (same z).1 h.1)) }
-
-    pub adds_then : (k : List Ticks) (S : (ℕ → ℕ) → Type 0) → Adds n m k S → Adds n l k (λ z. R z × S z)
-    adds_then k S two = record { usable = two.usable; exact = λ z. (λ h. let t = (two.exact z).0 h in let s = (one.exact z).0 t.0 in (s.0, (s.1, t.1)), λ h. (two.exact z).1 ((one.exact z).1 (h.0, h.1.0), h.1.1)) }
-
--- none of many
-pub adds_none : (n : ℕ) (l : List Ticks) (Q : ℕ → (ℕ → ℕ) → Type 0) → Usable n l → Adds n l l (λ z. (q : ℕ) → q < 0 → Q q z)
-adds_none n l Q usable = adds_nothing n l (λ z. (q : ℕ) → q < 0 → Q q z) usable (λ z q h. absurd (omega arith))
+pub adds_then : {s t u : Bounds} {R S : (ℕ → ℕ) → Type 0} → Adds s t R → Adds t u S → Adds s u (λ z. R z × S z)
+adds_then one two = record {
+  places = two.places ∙ one.places;
+  exact = λ z. (λ h. let v = (two.exact z).0 h in let w = (one.exact z).0 v.0 in (w.0, (w.1, v.1)), λ h. (two.exact z).1 ((one.exact z).1 (h.0, h.1.0), h.1.1));
+}
 
 -- one more of many
-pub adds_more : (n : ℕ) (l m k : List Ticks) (p : ℕ) (Q : ℕ → (ℕ → ℕ) → Type 0) → Adds n l m (λ z. (q : ℕ) → q < p → Q q z) → Adds n m k (Q p) → Adds n l k (λ z. (q : ℕ) → q < p + 1 → Q q z)
-adds_more n l m k p Q one two =
-    adds_like n l k (λ z. ((q : ℕ) → q < p → Q q z) × Q p z) (adds_then n l m (λ z. (q : ℕ) → q < p → Q q z) one k (Q p) two) (λ z. (q : ℕ) → q < p + 1 → Q q z)
-    (λ z. (λ h. below_more (λ q. Q q z) p h.0 h.1, λ h. (λ q lt. h q (omega arith), h p (omega arith))))
+pub adds_more : {s t u : Bounds} {p : ℕ} {Q : ℕ → (ℕ → ℕ) → Type 0} → Adds s t (λ z. (q : ℕ) → q < p → Q q z) → Adds t u (Q p) → Adds s u (λ z. (q : ℕ) → q < p + 1 → Q q z)
+adds_more {p} {Q} one two = adds_like (adds_then one two) (λ z. (λ h. below_more (λ q. Q q z) p h.0 h.1, λ h. (λ q lt. h q (omega arith), h p (omega arith))))
 
--- The positions of a square are the pairs of its places
-
-pub some_place : (n p : ℕ) → p < n * n → 0 < n
-some_place n p h = elim (ℕ_discrete n 0) [ yes e ↦ absurd (omega (arith, ap (λ k. k * n) e, zero-mul n)) | no e ↦ omega arith ]
-
-pub adds_square : (n : ℕ) (l m : List Ticks) (c p : ℕ) (Q : ℕ → ℕ → (ℕ → ℕ) → Type 0) → p ≡ c * c → Adds n l m (λ z. (k : ℕ) → k < p → Q (k / c) (k % c) z) → Adds n l m (λ z. (i j : ℕ) → i < c → j < c → Q i j z)
-adds_square n l m c p Q e one =
-    adds_like n l m (λ z. (k : ℕ) → k < p → Q (k / c) (k % c) z) one (λ z. (i j : ℕ) → i < c → j < c → Q i j z) (λ z. (
-      λ h i j hi hj. subst₂ (λ x y. Q x y z) (div-mul-add i c j hj) (mod-mul-add i c j hj) (h (i * c + j) (omega (arith, place_below c i j hi hj))),
-      λ h k lt. let w = some_place c k (omega arith) in h (k / c) (k % c) (div_below k c c w (omega arith)) (mod_below k c w),
-    ))
+-- all of them
+pub adds_all : {s t : Bounds} {p n : ℕ} {Q : ℕ → (ℕ → ℕ) → Type 0} → p ≡ n → Adds s t (λ z. (q : ℕ) → q < p → Q q z) → Adds s t (λ z. (q : ℕ) → q < n → Q q z)
+adds_all {s} {t} {Q} e = subst (λ m. Adds s t (λ z. (q : ℕ) → q < m → Q q z)) e
 
 -- Intervals
 
-module _ (n : ℕ) (l m : List Ticks) (i : Interval) (x y : ℕ) (lower : Tightened n l m y x (neg_ℤ (pos i.lower))) where
-  abbrev Under : (ℕ → ℕ) → Type 0
-  Under z = difference (z x) (z y) ≤ℤ neg_ℤ (pos i.lower)
-
-  pub adds_lower : i.upper ≡ None → Adds n l m (λ z. Within i (z x) (z y))
-  adds_lower e = adds_like n l m Under lower.adds (λ z. Within i (z x) (z y)) (λ z. (
+module _ {s t : Bounds} {i : Interval} {x y : ℕ} (lower : Adds s t (AtMost y x (neg_ℤ (pos i.lower)))) where
+  pub adds_lower : i.upper ≡ None → Adds s t (λ z. Within i (z x) (z y))
+  adds_lower e = adds_like lower (λ z. (
     λ h. record { not_under = omega (arith, ints); not_over = λ u f. let s : ◌≡◌ {A = ℕ} 0 1 = cc in absurd (omega arith) },
     λ h. omega (arith, ints, h.not_under),
   ))
 
-  pub adds_both : (u : ℕ) (v : ℤ) (k : List Ticks) → i.upper ≡ Some u → v ≡ pos u → Tightened n m k x y v → Adds n l k (λ z. Within i (z x) (z y))
-  adds_both u v k e above upper =
-      adds_like n l k (λ z. Under z × (difference (z y) (z x) ≤ℤ v)) (adds_then n l m Under lower.adds k (λ z. difference (z y) (z x) ≤ℤ v) upper.adds) (λ z. Within i (z x) (z y)) (λ z. (
+  pub adds_both : {u : ℕ} {v : ℤ} {o : Bounds} → i.upper ≡ Some u → v ≡ pos u → Adds t o (AtMost x y v) → Adds s o (λ z. Within i (z x) (z y))
+  adds_both {u} e above upper =
+      adds_like (adds_then lower upper) (λ z. (
         λ h. record { not_under = omega (arith, ints, h.0); not_over = λ t f. let s : u ≡ t = cc in omega (arith, ints, h.1) },
         λ h. (omega (arith, ints, h.not_under), omega (arith, ints, h.not_over u e)),
       ))

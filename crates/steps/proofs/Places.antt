@@ -5,11 +5,10 @@ use lib.ListN.{length-map}
 use Rattle.std.specs.List.{range_with_len}
 use Rattle.bookformat.specs.declared.value.Event.{Event}
 use Rattle.bookformat.specs.Values.{ChartValue, BookValue}
-use Rattle.bookformat.specs.Rules.{event, GoodChart, GoodBook}
+use Rattle.bookformat.specs.Rules.{event, chart, GoodChart, GoodBook}
 use Rattle.bookformat.specs.Reading.{is_silent}
 use Rattle.bookformat.proofs.Silence.{silent_false}
 use Rattle.paths.specs.Charts.{event_count}
-use Rattle.steps.specs.Answers.{ChartOf}
 
 abbrev kept : (ℕ → Bool) → ℕ → ℕ → List ℕ
 kept t a n = filter t (range_with_len a n)
@@ -63,7 +62,5 @@ count_most b c good =
     omega (arith, length-append (map (λ (e : Event). e.station) es) (kept (is_silent es) 0 b.stations), length-map es (λ (e : Event). e.station))
 
 -- the places of a step's table
-pub places_most : (b : BookValue) → GoodBook b → (c : ChartValue) → ChartOf b c → b.stations + event_count b c ≤ 54
-places_most b good c (k, h, is) =
-    let this : GoodChart b.stations c = subst (GoodChart b.stations) is (good.charts k h) in
-    omega (arith, good.stations_most, this.events_most, count_most b c this)
+pub places_most : (b : BookValue) → GoodBook b → (k : ℕ) → k < length b.charts → b.stations + event_count b (chart b k) ≤ 54
+places_most b good k h = omega (arith, good.stations_most, (good.charts k h).events_most, count_most b (chart b k) (good.charts k h))

@@ -1,20 +1,13 @@
 -- Entries that are read out of a closed table.
-use Rattle.std.proofs.Common.{◌≡◌, ℕ, ◌+◌, ◌*◌, ◌/◌, ◌%◌, ◌<◌, ◌≤◌, true, List, length, get_or, set, ℤ, pos, is_some, Some, Option, sym, refl, ap, ◌∙◌, subst, ap₂, subst₂, ⊎_elim, arith, length-set, w16, w32, SFits, to_z, of_z, below_more}
+use Rattle.std.proofs.Common.{◌≡◌, ℕ, ◌+◌, ◌*◌, ◌/◌, ◌%◌, ◌<◌, ◌≤◌, true, List, length, get_or, set, ℤ, pos, is_some, Some, Option, sym, ap, ◌∙◌, subst, ap₂, subst₂, ⊎_elim, arith, length-set, w16, w32, SFits, to_z, of_z, below_more}
 use Rattle.std.proofs.lemmas.Int.{to_z-of_z}
 use Rattle.std.proofs.lemmas.List.{get_or-set_same, get_or-set_other}
 use Rattle.std.proofs.lemmas.Nat.{div-mul-add, mod-mul-add}
-use Rattle.closure.specs.declared.kinds.Ticks.{Ticks}
-use Rattle.closure.specs.declared.tables.Closing.{Closing}
-use Rattle.closure.specs.declared.tables.Closing.TheVariants.{Closed, WrongSize, OutOfRange, BadCycle}
-use Rattle.closure.specs.Closings.{Closes}
-use Rattle.closure.specs.Tickings.{ticks_meaning, WithinTicks}
+use Rattle.closure.specs.Tickings.{WithinTicks}
 use Rattle.fullchart.specs.Finds.{LastOn}
-use Rattle.paths.specs.Bounds as bounds
-use Rattle.paths.specs.Tables.{Table, Entry, ShortestWalks}
+use Rattle.paths.specs.Tables.{Table}
 use Rattle.profile.proofs.Ranges.{small_fits}
-use Rattle.steps.specs.Fillings.{table_of, Usable}
 use Rattle.steps.specs.Readings.{Readable, EntryRead, ProfileRead}
-use Rattle.steps.proofs.Bridge.{bad_cycle, shortest}
 
 -- the last place of a station is one
 same_last : (l : List ℕ) (p e f : ℕ) → LastOn l p (Some e) → LastOn l p (Some f) → e ≡ f
@@ -63,15 +56,3 @@ module _ (D : Table) (first : ℕ) (events : List ℕ) where
       let k = 8 * p + q in
       let e : k ≡ p * 8 + q = omega arith in
       subst₂ (λ x y. EntryRead D first events x y (get_or a k (pos 0))) (ap (λ i. i / 8) e ∙ div-mul-add p 8 q hq) (ap (λ i. i % 8) e ∙ mod-mul-add p 8 q hq) (below.1 k (omega arith))
-
--- What closing answers
-
-module _ (n : ℕ) (l m : List Ticks) where
-  pub shortest_walks : Closes ticks_meaning n l m Closed → ShortestWalks n (table_of n l) (table_of n m)
-  shortest_walks h = shortest n (table_of n l) (table_of n m) h.2
-
-  pub else_bad : (r : Closing) → Usable n l → Closes ticks_meaning n l m r → (r ≡ Closed → ⊥) → bounds.BadCycle (Entry n (table_of n l))
-  else_bad Closed usable h ne = absurd (ne refl)
-  else_bad WrongSize usable h ne = absurd (h.0 usable.sized)
-  else_bad (OutOfRange p) usable h ne = absurd (h.1.beyond (usable.given p h.1.within))
-  else_bad (BadCycle p) usable h ne = bad_cycle n (table_of n l) p h.2

@@ -1,8 +1,7 @@
 -- What is answered of a chart alone, and of a step.
-use Rattle.std.specs.Prelude.{◌≡◌, ℕ, ◌<◌, ◌≤◌, ◌⊎◌, List, length, ℤ, pos, Some, None, Option}
+use Rattle.std.specs.Prelude.{◌≡◌, ℕ, ◌<◌, ◌≤◌, ◌⊎◌, List, ℤ, pos, Some, None, Option}
 use Rattle.bookformat.specs.declared.value.Link.{Link}
 use Rattle.bookformat.specs.Values.{ChartValue, BookValue}
-use Rattle.bookformat.specs.Rules.{chart}
 use Rattle.paths.specs.Datings.{KeepsChart}
 use Rattle.paths.specs.Profiles.{ChartProfile, WithinFar}
 use Rattle.paths.specs.Steps.{Solution, StepProfile}
@@ -24,7 +23,3 @@ ChartAnswer b c (Some a) = ChartProfile b c (entries_of a) × Tidy b a
 abbrev pub StepAnswer : BookValue → Link → (ℕ → ℕ → ℤ) → Option (List ℤ) → Type 0
 StepAnswer b l P None = Solution b l P → ⊥
 StepAnswer b l P (Some a) = StepProfile b l P (entries_of a) × Tidy b a
-
--- c is a chart of the book
-abbrev pub ChartOf : BookValue → ChartValue → Type 0
-ChartOf b c = (k : ℕ) × (k < length b.charts) × (chart b k ≡ c)

@@ -1,3 +1,4 @@
+pub mod Tables
 pub mod Fillings
 pub mod Parts
 pub mod Readings

@@ -13,8 +13,12 @@ use Rattle.paths.specs.Profiles.{difference}
 abbrev pub BeforeKept : List Event → ℕ → ℕ → ℕ → (ℕ → ℕ) → Type 0
 BeforeKept es first e f z = DirectlyBefore es e f → z (first + e) ≤ z (first + f)
 
+-- the order of one event and each other
+abbrev pub OrderKeptFrom : List Event → ℕ → ℕ → (ℕ → ℕ) → Type 0
+OrderKeptFrom es first e z = (f : ℕ) → f < length es → BeforeKept es first e f z
+
 abbrev pub OrderKept : List Event → ℕ → (ℕ → ℕ) → Type 0
-OrderKept es first z = (e f : ℕ) → e < length es → f < length es → BeforeKept es first e f z
+OrderKept es first z = (e : ℕ) → e < length es → OrderKeptFrom es first e z
 
 -- one constraint
 abbrev pub ConstraintKept : List Constraint → ℕ → ℕ → (ℕ → ℕ) → Type 0
@@ -33,20 +37,28 @@ pub record Enterable (n : ℕ) (cs : List Constraint) (first k : ℕ) : Type 0 w
 abbrev pub DriftKept : BookValue → ℕ → ℕ → ℕ → ℕ → (ℕ → ℕ) → Type 0
 DriftKept b working first e f z = z (first + e) ≤ z (first + f) + drift_of b (nat_lt e working) (nat_lt f working)
 
+-- the drift bounds of one event and each other
+abbrev pub DriftsKeptFrom : BookValue → ℕ → ℕ → ℕ → ℕ → (ℕ → ℕ) → Type 0
+DriftsKeptFrom b working count first e z = (f : ℕ) → f < count → DriftKept b working first e f z
+
 abbrev pub DriftsKept : BookValue → ℕ → ℕ → ℕ → (ℕ → ℕ) → Type 0
-DriftsKept b working count first z = (e f : ℕ) → e < count → f < count → DriftKept b working first e f z
+DriftsKept b working count first z = (e : ℕ) → e < count → DriftsKeptFrom b working count first e z
 
 -- a profile as an array: the entry of stations p and q stands at 8 p + q
 abbrev pub entries_of : List ℤ → ℕ → ℕ → ℤ
 entries_of a p q = slice_index_or a (8 * p + q) (pos 0)
 
+-- the entries of one station and each other
+abbrev pub ProfileKeptFrom : (ℕ → ℕ → ℤ) → ℕ → ℕ → (ℕ → ℕ) → Type 0
+ProfileKeptFrom P stations p z = (q : ℕ) → q < stations → difference (z p) (z q) ≤ℤ P p q
+
 abbrev pub ProfileKept : (ℕ → ℕ → ℤ) → ℕ → (ℕ → ℕ) → Type 0
-ProfileKept P stations z = (p q : ℕ) → p < stations → q < stations → difference (z p) (z q) ≤ℤ P p q
+ProfileKept P stations z = (p : ℕ) → p < stations → ProfileKeptFrom P stations p z
 
 -- the interval of station p, whose first event is looked for in the list of the events' stations; the stations' last events before the link stand at the first places
 abbrev pub CrossingKept : Interval → List ℕ → ℕ → ℕ → (ℕ → ℕ) → Type 0
 CrossingKept i events stations p z = (f : ℕ) → FirstOn events p (Some f) → Within i (z p) (z (stations + f))
 
 -- the intervals of the first n stations
-pub record CrossingsKept (is : List Interval) (events : List ℕ) (stations n : ℕ) (z : ℕ → ℕ) : Type 0 where
-  pub each : (p : ℕ) → p < n → CrossingKept (slice_index_or is p unbounded) events stations p z
+abbrev pub CrossingsKept : List Interval → List ℕ → ℕ → ℕ → (ℕ → ℕ) → Type 0
+CrossingsKept is events stations n z = (p : ℕ) → p < n → CrossingKept (slice_index_or is p unbounded) events stations p z

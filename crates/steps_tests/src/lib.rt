@@ -6,20 +6,7 @@ mod tests {
     use chartbook::read_book;
     use std::test::Fail;
     use steps::{first_profile, step_profile};
-
-    // Two stations, three charts with a message each, three links.
-    const COUNTDOWN: [u8; 148] = [
-        0x54, 0x43, 0x4d, 0, 1, 2, 3, 0, 3, 0, 3, 0, 3, // mark and header
-        2, 1, 0, 0, 0x21, 1, 1, 0x3f, 0, 0, 1, 0, 3, 0, 3, // chart 0 at 13
-        2, 0, 0, 0, 0x21, 1, 1, 0x3f, 0, // chart 1 at 28
-        2, 0, 1, 1, 0x21, 1, 0, 0x3f, 0, // chart 2 at 37
-        0, 1, 0, 2, 0, 2, 0, 1, 0, 1, 0, 0, 255, 255, 0, 0, 255, 255, 0, 0, 255, 255, 0, 0, 255,
-        255, 0, 0, 255, 255, 0, 0, 255, 255, // link 0 at 46
-        1, 1, 0, 2, 0, 2, 0, 1, 0, 1, 0, 0, 255, 255, 0, 0, 255, 255, 0, 0, 255, 255, 0, 0, 255,
-        255, 0, 0, 255, 255, 0, 0, 255, 255, // link 1 at 80
-        1, 2, 0, 0, 0, 0, 0, 0, 0, 0, 0, 0, 255, 255, 0, 0, 255, 255, 0, 0, 255, 255, 0, 0, 255,
-        255, 0, 0, 255, 255, 0, 0, 255, 255, // link 2 at 114
-    ];
+    use worked_books::COUNTDOWN;
 
     // The entries of stations 0 and 1: 0 minus 1, and 1 minus 0.
     fn between(profile: Option<[i16; 64]>) -> Option<(i16, i16)> {
@@ -29,14 +16,14 @@ mod tests {
 
     #[test]
     fn first_chart_alone(rt: HostRuntime) -> Result<(), Fail> {
-        let book = read_book(&COUNTDOWN)?;
+        let book = read_book(COUNTDOWN)?;
         assert_eq!(rt; between(first_profile(&book)), Some((-3, 3)));
         Ok(())
     }
 
     #[test]
     fn steps_of_countdown(rt: HostRuntime) -> Result<(), Fail> {
-        let book = read_book(&COUNTDOWN)?;
+        let book = read_book(COUNTDOWN)?;
         assert!(rt; book.links.as_slice().len() == 3);
         let Some(three) = first_profile(&book) else {
             return Err(Fail::new("the first chart"));

@@ -1,3 +1,4 @@
+use bookformat::{Interval, Kind};
 use chartbook::{RecordKind, Watch};
 use std::io;
 
@@ -53,15 +54,11 @@ fn print_record(
     }
 }
 
-fn word(high: u8, low: u8) -> u16 {
-    u16::from_be_bytes([high, low])
-}
-
 fn print_mark(rt: &HostRuntime, place: usize, bytes: &[u8]) -> io::Result<()> {
     let [a, b, c, high, low] = bytes else {
         return Ok(());
     };
-    let version = word(*high, *low);
+    let version = u16::from_be_bytes([*high, *low]);
     match bytes {
         [b'T', b'C', b'M', ..] => println!(rt; "{place} mark TCM version {version}"),
         _ => println!(rt; "{place} mark {a:02X}h {b:02X}h {c:02X}h version {version}"),
@@ -82,8 +79,8 @@ fn print_header(rt: &HostRuntime, place: usize, bytes: &[u8]) -> io::Result<()> 
     else {
         return Ok(());
     };
-    let near = word(*near_high, *near_low);
-    let far = word(*far_high, *far_low);
+    let near = u16::from_be_bytes([*near_high, *near_low]);
+    let far = u16::from_be_bytes([*far_high, *far_low]);
     println!(rt;
         "{place} header stations {stations} charts {charts} first {first} links {links} near {near} far {far}"
     )
@@ -102,10 +99,14 @@ fn print_event(rt: &HostRuntime, number: usize, place: usize, bytes: &[u8]) -> i
     let [station, kind, pair] = bytes else {
         return Ok(());
     };
-    match *kind {
-        0x21 => println!(rt; "{place} event {number} station {station} sends to event {pair}"),
-        0x3f => println!(rt; "{place} event {number} station {station} receives from event {pair}"),
-        _ => println!(rt;
+    match Kind::try_from(*kind) {
+        Ok(Kind::Send) => println!(rt;
+            "{place} event {number} station {station} sends to event {pair}"
+        ),
+        Ok(Kind::Receive) => println!(rt;
+            "{place} event {number} station {station} receives from event {pair}"
+        ),
+        Err(_) => println!(rt;
             "{place} event {number} station {station} kind {kind:02X}h with event {pair}"
         ),
     }
@@ -119,15 +120,12 @@ fn print_order(rt: &HostRuntime, chart: usize, is_sound: bool) -> io::Result<()>
     }
 }
 
-/// The interval of four bytes, without an upper end where there is none.
-fn print_interval(rt: &HostRuntime, bytes: [u8; 4]) -> io::Result<()> {
-    let [a, b, c, d] = bytes;
-    let lower = word(a, b);
-    let upper = word(c, d);
-    if upper == 0xffff {
-        print!(rt; " {lower}..")
-    } else {
-        print!(rt; " {lower}..{upper}")
+/// An interval, without an upper end where there is none.
+fn print_interval(rt: &HostRuntime, interval: Interval) -> io::Result<()> {
+    let Interval { lower, upper } = interval;
+    match upper {
+        Some(upper) => print!(rt; " {lower}..{upper}"),
+        None => print!(rt; " {lower}.."),
     }
 }
 
@@ -136,7 +134,7 @@ fn print_constraint(rt: &HostRuntime, number: usize, place: usize, bytes: &[u8])
         return Ok(());
     };
     print!(rt; "{place} constraint {number} from event {first} to event {second} in")?;
-    print_interval(rt, [*a, *b, *c, *d])?;
+    print_interval(rt, Interval::from([*a, *b, *c, *d]))?;
     println!(rt; "")
 }
 
@@ -147,7 +145,7 @@ fn print_link(rt: &HostRuntime, number: usize, place: usize, bytes: &[u8]) -> io
     print!(rt; "{place} link {number} from chart {from} to chart {to} in")?;
     for interval in rest.chunks_exact(4) {
         if let [a, b, c, d] = interval {
-            print_interval(rt, [*a, *b, *c, *d])?;
+            print_interval(rt, Interval::from([*a, *b, *c, *d]))?;
         }
     }
     println!(rt; "")

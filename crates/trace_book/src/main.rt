@@ -3,23 +3,19 @@
 
 mod lines;
 
+use bookformat::{LONGEST, Refusal};
 use chartbook::read_watched;
 use lines::Trace;
 use std::io::Read;
 
-/// The bytes of the longest book; one byte more shows that there are too many.
-const LONGEST: u64 = 20_589;
-
 fn main(rt: HostRuntime) -> anyhow::Result<()> {
     let mut bytes = Vec::new(rt.alloc());
-    rt.stdin().take(LONGEST + 1).read_to_end(&mut bytes)?;
+    // One byte more than the longest book has shows that there are too many.
+    rt.stdin().take(LONGEST as u64 + 1).read_to_end(&mut bytes)?;
     let mut trace = Trace::new(&rt);
     match read_watched(bytes.as_slice(), &mut trace) {
         Ok(_) => println!(rt; "taken")?,
-        Err(fault) => {
-            let told = fault.refusal();
-            println!(rt; "refused {} {} {}", told.number, told.layer, told.place)?;
-        }
+        Err(fault) => println!(rt; "{}", Refusal::from(fault))?,
     }
     trace.finish()?;
     Ok(())

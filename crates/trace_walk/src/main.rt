@@ -4,22 +4,13 @@
 mod walking;
 
 use anyhow::anyhow;
-use bookformat::Fault;
+use bookformat::{LONGEST, Refusal};
 use scanned::ScannedRegister;
-use std::io;
 use std::io::Read;
 use walking::{StepTrace, print_verdict, walk_through};
 
-/// The bytes of the longest book; one byte more shows that there are too many.
-const LONGEST: u64 = 20_589;
-
 /// How many rows are set aside for the walk. A book has at most 128 links, so that it ends within 8,192 steps.
 const ROWS: u16 = 64;
-
-fn print_refusal(rt: &HostRuntime, fault: Fault) -> io::Result<()> {
-    let told = fault.refusal();
-    println!(rt; "refused {} {} {}", told.number, told.layer, told.place)
-}
 
 fn print_walk(rt: &HostRuntime, bytes: &[u8]) -> anyhow::Result<()> {
     let Ok(mut register) = ScannedRegister::new(rt.alloc(), ROWS) else {
@@ -30,13 +21,14 @@ fn print_walk(rt: &HostRuntime, bytes: &[u8]) -> anyhow::Result<()> {
     trace.finish()?;
     match walked {
         Ok(verdict) => print_verdict(rt, verdict)?,
-        Err(fault) => print_refusal(rt, fault)?,
+        Err(fault) => println!(rt; "{}", Refusal::from(fault))?,
     }
     Ok(())
 }
 
 fn main(rt: HostRuntime) -> anyhow::Result<()> {
     let mut bytes = Vec::new(rt.alloc());
-    rt.stdin().take(LONGEST + 1).read_to_end(&mut bytes)?;
+    // One byte more than the longest book has shows that there are too many.
+    rt.stdin().take(LONGEST as u64 + 1).read_to_end(&mut bytes)?;
     print_walk(&rt, bytes.as_slice())
 }

@@ -66,10 +66,7 @@ pub fn walk_through<R: Register, W: Watch>(
 
 pub fn print_verdict(rt: &HostRuntime, verdict: Verdict) -> io::Result<()> {
     match verdict.state {
-        State::Idle => println!(rt; "idle"),
-        State::Open => println!(rt; "open"),
-        State::Runs => println!(rt; "runs {}", verdict.charts),
-        State::Empty => println!(rt; "empty"),
-        State::Spent => println!(rt; "spent"),
+        State::Runs => println!(rt; "{} {}", State::Runs, verdict.charts),
+        state => println!(rt; "{state}"),
     }
 }

@@ -1,8 +1,11 @@
 -- Looking for the next pair, row after row.
-use Rattle.std.proofs.Common.{◌≡◌, ℕ, ◌+◌, ◌<◌, ◌≤◌, List, length, Some, None, sym, ap, ◌∙◌, inl, inr, ⊎_elim, arith}
+use Rattle.std.proofs.Common.{◌≡◌, ℕ, ◌+◌, ◌-◌, ◌<◌, ◌≤◌, ◌≢◌, List, length, get_or, drop, Some, None, sym, ap, ◌∙◌, inl, inr, ⊎_elim, arith, get_or-take, get_or-drop}
+use Rattle.std.specs.List.{slice_range, AllWithin, HoldsAt}
 use native.Mathlib.Decide.{dec_lt}
 use Rattle.std.proofs.lemmas.Bool.{eq-eqb, eqb-true}
+use Rattle.bookformat.specs.declared.value.Link.{Link}
 use Rattle.bookformat.specs.Values.{BookValue}
+use Rattle.bookformat.specs.Rules.{no_link}
 use Rattle.paths.specs.Paths.{link}
 use Rattle.register.specs.declared.row.Row.{Row}
 use Rattle.register.specs.Meaning.{row_at}
@@ -55,3 +58,27 @@ module _ (b : BookValue) (rows : List Row) where
 
   pub sought_none : (p l q m : ℕ) → Sought b rows p l q m → length rows ≤ q → Found (ranged b) (rows_of b rows) p l Empty
   sought_none p l q m s h = λ i j pair. s.1 i j pair (inl (let in_rows = pair.0 in omega (arith, length_rows_of b rows)))
+
+-- The first link from a number on, out of those that follow it
+
+module _ (b : BookValue) (links part : List Link) (chart start : ℕ) (are : links ≡ b.links) (is : part ≡ slice_range links start (length links)) (size : length part + start ≡ length links) where
+  part_link : (i : ℕ) → i < length part → get_or part i no_link ≡ link b (start + i)
+  part_link i h =
+      ap (λ (l : List Link). get_or l i no_link) is ∙ get_or-take (length links - start) (drop start links) i no_link (omega arith) ∙ get_or-drop start links i no_link
+      ∙ ap (λ (l : List Link). get_or l (start + i) no_link) are
+
+  pub first_found : (i : ℕ) → (i < length part) × HoldsAt (λ (l : Link). l.from ≡ chart) part i × AllWithin (λ (l : Link). l.from ≢ chart) part 0 i → FirstFrom b chart start (Some (start + i))
+  first_found i h = (
+    omega arith,
+    omega (arith, h.0, size, ap length are),
+    sym (ap (λ (l : Link). l.from) (part_link i h.0)) ∙ h.1 no_link,
+    λ j low high e.
+        let back : start + (j - start) ≡ j = omega arith in
+        h.2 (j - start) no_link (omega arith) (omega arith) (ap (λ (l : Link). l.from) (part_link (j - start) (omega (arith, h.0)) ∙ ap (link b) back) ∙ e),
+  )
+
+  pub first_none : AllWithin (λ (l : Link). l.from ≢ chart) part 0 (length part) → FirstFrom b chart start None
+  first_none all = λ j low high e.
+      let back : start + (j - start) ≡ j = omega arith in
+      let inside : j - start < length part = omega (arith, size, ap length are) in
+      all (j - start) no_link (omega arith) inside (ap (λ (l : Link). l.from) (part_link (j - start) inside ∙ ap (link b) back) ∙ e)

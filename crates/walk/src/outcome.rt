@@ -1,3 +1,8 @@
+ghost use Rattle.std.specs.Prelude.{◌≡◌};
+ghost use Rattle.walk.specs.Trying.{outcome_by};
+
+use register::Entered;
+
 /// What a step meets. `Known` and `New` have the place of the row.
 #[derive(Clone, Copy, PartialEq, Eq, Debug)]
 pub enum Outcome {
@@ -7,4 +12,17 @@ pub enum Outcome {
     Full,
     Known(u16),
     New(u16),
+}
+
+/// What a step meets if the register answers so.
+impl From<Entered> for Outcome {
+    ghost from_gives = { λ entered outcome. outcome ≡ outcome_by entered };
+
+    fn from(entered: Entered) -> Outcome {
+        match entered {
+            Entered::Known(at) => Outcome::Known(at),
+            Entered::New(at) => Outcome::New(at),
+            Entered::Full => Outcome::Full,
+        }
+    }
 }

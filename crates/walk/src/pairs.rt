@@ -1,7 +1,7 @@
 // The pairs of a row and a link from its chart, in their order.
 ghost use Rattle.std.specs.Prelude.{◌≡◌, ◌≤◌, length};
 ghost use Rattle.bookformat.specs.Rules.{chart as chart_numbered};
-ghost use Rattle.bookformat.specs.Values.{book_value};
+ghost use Rattle.bookformat.specs.Books.{book_value};
 ghost use Rattle.register.specs.Meaning.{row_at};
 ghost use Rattle.search.specs.Places.{Found};
 ghost use Rattle.classes.specs.Ranged.{ranged};
@@ -32,31 +32,26 @@ pub fn row_at<R: Register>(register: &R, place: u16) -> Row
 pub fn is_final(book: &Book, number: u8) -> bool
     ensures { result ≡ (chart_numbered (book_value book.now) number).final }
 {
-    let charts = book.charts.as_slice();
-    let at = usize::from(number);
-    at < charts.len() && charts[at].is_final
+    book.charts
+        .get(usize::from(number))
+        .is_some_and(|chart| chart.is_final)
 }
 
 /// The first link, from the one with the number `start` on, that begins at a chart.
 fn link_from(book: &Book, chart: u8, start: usize) -> Option<u8>
-    requires { length (book_value book.now).links ≤ 128 }
     ensures { FirstFrom (book_value book.now) chart start result }
 {
-    let links = book.links.as_slice();
-    for number in start..links.len() {
-        if links[number].from == chart {
-            return Some(number as u8);
-        }
-    }
-    None
+    let links = book.links.get(start..)?;
+    let ahead = links.iter().position(|link| link.from == chart)?;
+    Some((start + ahead) as u8)
 }
 
 /// Open at the first pair from a row and a link on, or empty if there is none.
 pub fn next_pair<R: Register>(book: &Book, register: &R, place: u16, link: usize) -> Phase
-    requires { length (book_value book.now).links ≤ 128 }
     ensures { Found (ranged (book_value book.now)) (rows_of (book_value book.now) (R.rows register.now)) place link (phase_of result) }
 {
     let mut start = link;
+    // (The places of rows: a register hands out rows by their place alone.)
     for at in place..register.count() {
         if let Some(number) = link_from(book, row_at(register, at).class.chart, start) {
             return Phase::Open(at, number);

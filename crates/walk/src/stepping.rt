@@ -1,7 +1,7 @@
 // How the walk begins, and one step of it.
 ghost use Rattle.std.specs.Prelude.{◌≡◌, ◌+◌, ◌<◌, ◌≤◌, length, Decides};
 ghost use Rattle.bookformat.specs.Rules.{chart as chart_numbered, GoodBook};
-ghost use Rattle.bookformat.specs.Values.{book_value};
+ghost use Rattle.bookformat.specs.Books.{book_value};
 ghost use Rattle.profile.specs.Ranges.{InRange};
 ghost use Rattle.register.specs.Meaning.{row_at};
 ghost use Rattle.search.specs.Places.{Found};
@@ -30,13 +30,10 @@ fn class_with(chart: u8, entries: [i16; 64]) -> Class
 
 /// The class of the first chart alone, if it can be dated.
 fn first_class(book: &Book) -> Option<Class>
-    requires { GoodBook (book_value book.now) }
     ensures { Starts (book_value book.now) result }
 {
-    match first_profile(book) {
-        Some(entries) => Some(class_with(book.first, entries)),
-        None => None,
-    }
+    let entries = first_profile(book)?;
+    Some(class_with(book.first, entries))
 }
 
 /// Does the link begin at a chart?
@@ -57,40 +54,25 @@ fn is_in_range(entries: &[i16; 64]) -> bool
 
 /// The class to which a link leads from a class, if a path goes on so.
 fn lead(book: &Book, from: &Class, link: u8) -> Option<Class>
-    requires good { GoodBook (book_value book.now) }
-    requires exists { link < length (book_value book.now).links }
+    requires { link < length (book_value book.now).links }
     ensures { LedTo (book_value book.now) from.now link result }
 {
     let number = usize::from(link);
-    let taken = book.links.as_slice()[number];
-    if !begins_at(&taken, from.chart) {
+    let taken = book.link(number);
+    if !begins_at(taken, from.chart) {
         return None;
     }
     // (Nothing else is known of the entries of a row that the walk did not enter.)
     if !is_in_range(&from.profile.entries) {
         return None;
     }
-    match step_profile(book, &from.profile.entries, number) {
-        Some(entries) => Some(class_with(taken.to, entries)),
-        None => None,
-    }
-}
-
-/// What a step meets if the register answers so.
-fn outcome_of(entered: Entered) -> Outcome
-    ensures { result ≡ outcome_by entered }
-{
-    match entered {
-        Entered::Known(at) => Outcome::Known(at),
-        Entered::New(at) => Outcome::New(at),
-        Entered::Full => Outcome::Full,
-    }
+    let entries = step_profile(book, &from.profile.entries, number)?;
+    Some(class_with(taken.to, entries))
 }
 
 /// Enters what the link leads to from the row at a place.
 fn try_pair<R: Register>(book: &Book, register: &mut R, place: u16, link: u8) -> Outcome
-    requires good { GoodBook (book_value book.now) }
-    requires exists { link < length (book_value book.now).links }
+    requires { link < length (book_value book.now).links }
     ensures tried { Tried (book_value book.now) (R.capacity register.old) (R.rows register.old) place link result (R.rows register.new) }
     ensures capacity { R.capacity register.new ≡ R.capacity register.old }
 {
@@ -102,7 +84,7 @@ fn try_pair<R: Register>(book: &Book, register: &mut R, place: u16, link: u8) ->
         class,
         origin: Some(Origin { row: place, link }),
     };
-    outcome_of(register.enter(&row))
+    Outcome::from(register.enter(&row))
 }
 
 /// Is the chart of the row at a place marked final?
@@ -114,7 +96,6 @@ fn is_final_row<R: Register>(book: &Book, register: &R, place: u16) -> bool
 
 /// Open at the first pair behind that of a row and a link, or empty if there is none.
 fn pair_behind<R: Register>(book: &Book, register: &R, place: u16, link: u8) -> Phase
-    requires { length (book_value book.now).links ≤ 128 }
     ensures { Found (ranged (book_value book.now)) (rows_of (book_value book.now) (R.rows register.now)) place (link + 1) (phase_of result) }
 {
     next_pair(book, register, place, usize::from(link) + 1)
@@ -128,7 +109,6 @@ fn phase_after<R: Register>(
     link: u8,
     outcome: Outcome,
 ) -> Phase
-    requires { length (book_value book.now).links ≤ 128 }
     ensures { Follows (book_value book.now) (R.rows register.now) place link outcome result }
 {
     match outcome {
@@ -152,8 +132,7 @@ pub fn step<R: Register, W: Watch>(
     link: u8,
     watch: &mut W,
 ) -> Phase
-    requires good { GoodBook (book_value book.now) }
-    requires exists { link < length (book_value book.now).links }
+    requires { link < length (book_value book.now).links }
     ensures stepped { Stepped (book_value book.now) (R.capacity register.old) (R.rows register.old) place link (R.rows register.new) result }
     ensures capacity { R.capacity register.new ≡ R.capacity register.old }
 {
@@ -164,7 +143,6 @@ pub fn step<R: Register, W: Watch>(
 
 /// Open at the first pair of all, or empty if there is none.
 fn first_pair<R: Register>(book: &Book, register: &R) -> Phase
-    requires { length (book_value book.now).links ≤ 128 }
     ensures { Found (ranged (book_value book.now)) (rows_of (book_value book.now) (R.rows register.now)) 0 0 (phase_of result) }
 {
     next_pair(book, register, 0, 0)
@@ -172,8 +150,7 @@ fn first_pair<R: Register>(book: &Book, register: &R) -> Phase
 
 /// Clears the register and begins the walk with the first chart.
 pub fn begin_walk<R: Register>(book: &Book, register: &mut R) -> Phase
-    requires good { GoodBook (book_value book.now) }
-    requires room { 0 < R.capacity register.old }
+    requires { 0 < R.capacity register.old }
     ensures started { Started (book_value book.now) (R.rows register.new) result }
     ensures capacity { R.capacity register.new ≡ R.capacity register.old }
 {

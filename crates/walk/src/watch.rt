@@ -1,5 +1,6 @@
 use crate::outcome::Outcome;
 
+// (A trait and no closure: whoever calls a closure must ask that it may be called, and no call of an examination asks for anything.)
 /// Is told of each step of a walk.
 pub trait Watch {
     /// The pair of a row and a link was tried, with this outcome.

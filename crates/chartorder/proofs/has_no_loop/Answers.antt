@@ -1,13 +1,13 @@
-use Rattle.std.proofs.Common.{arith}
-use Rattle.closure.proofs.Entries.{place_below}
-use Rattle.chartorder.proofs.Tables.{loop_found, loop_more}
+use Rattle.std.proofs.Common.{◌≡◌, rules, arith}
+use Rattle.std.proofs.lemmas.Iterator.{YieldsList-from_range, cases_from_all}
+use Rattle.closure.specs.declared.kinds.Before.TheVariants.{Unlinked}
+use Rattle.closure.specs.Befores.{before_meaning}
+use Rattle.closure.specs.Closings.{entry}
+use Rattle.chartorder.proofs.Tables.{no_loop_all}
 use Rattle.chartorder.proofs.has_no_loop.Goals as goal
 
-pub bounds : goal.bounds
-bounds c = omega (arith, c.requires.1, place_below c.args.places c.loop-e.e c.loop-e.e c.loop-e-test.true c.loop-e-test.true)
-
-pub returns-in-Linked : goal.returns-in-Linked
-returns-in-Linked c = loop_found c.args.places c.loop-e.e c.args.table.now c.loop-e-test.true c.requires.1 c.in-Linked.is
-
-pub loop-e-preserved : goal.loop-e-preserved
-loop-e-preserved c = loop_more c.args.places c.loop-e.e c.args.table.now c.loop-e-test.true c.requires.1 c.in_default.not-Linked c.loop-e.invariant
+pub returns : goal.returns
+returns c =
+    let n = c.args.table.now.places in
+    let u = entry before_meaning n c.args.table.now.weights.now in
+    no_loop_all n u c.all.result (cases_from_all _ _ c.all.result (λ e. u e e ≡ Unlinked) (λ e. u e e ≡ Unlinked → ⊥) c.all.ensures.ran (YieldsList-from_range 0 n n (cc) (omega arith)) (λ x q k. search rules) (λ x q k. search rules))

@@ -1,12 +1,9 @@
 use Rattle.std.proofs.Common.{◌+◌, sym, ap, ◌∙◌, subst}
 use Rattle.bookformat.specs.Reading.{is_silent}
 use Rattle.fullchart.specs.Finds.{SilentAdded}
-use Rattle.fullchart.proofs.Listed.{silent_none, silent_more, silent_same}
+use Rattle.fullchart.proofs.Listed.{silent_more, silent_same}
 use Rattle.fullchart.proofs.add_silent.Goals as goal
 use Rattle.fullchart.proofs.add_silent.Goals.{then-is_silent, else-is_silent}
-
-pub loop-p-init : goal.loop-p-init
-loop-p-init c = silent_none c.args.stations.now c.args.events.now
 
 pub loop-p-preserved : goal.loop-p-preserved
 loop-p-preserved c =

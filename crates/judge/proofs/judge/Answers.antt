@@ -1,4 +1,4 @@
-use Rattle.bookformat.specs.Values.{book_value}
+use Rattle.bookformat.specs.Books.{book_value}
 use Rattle.judge.specs.Judging.{good_book}
 use Rattle.judge.proofs.Faults.{book_refused}
 use Rattle.judge.proofs.judge.Goals as goal

@@ -1,5 +1,4 @@
 use Rattle.std.proofs.Common.{◌+◌, ◌*◌, ap}
-use Rattle.bookformat.specs.Values.{held}
 use Rattle.bookrecords.specs.declared.fields.ChartHead.{ChartHead}
 use Rattle.bookrecords.proofs.Exits.{hands_on}
 use Rattle.chartbook.proofs.ChartTests.{events_fail, pairs_fail, constraints_fail, order_fails, order_passes, chart_is, chart_near}
@@ -17,7 +16,7 @@ returns-in_err-check_pairs g c =
     let e = c.in_ok-events.ensures in
     hands_on c.from_residual-in_err-check_pairs.result _ _ c.in_err-check_pairs.field-0.0 c.from_residual-in_err-check_pairs.ensures.1
     (pairs_fail c.args.book.now c.args.stations c.args.place c.in_ok-head.head h.1 h.0
-    e.0 (held c.in_ok-events.events) c.as_slice-listed.result.now e.1 c.as_slice-listed.ensures _ c.in_err-check_pairs.ensures)
+    e.0 c.in_ok-events.events.items e.1 _ c.in_err-check_pairs.ensures)
 
 pub returns-in_err-constraints : goal.returns-in_err-constraints
 returns-in_err-constraints g c =
@@ -25,7 +24,7 @@ returns-in_err-constraints g c =
     let e = c.in_ok-events.ensures in
     hands_on c.from_residual-in_err-constraints.result _ _ c.in_err-constraints.field-0.0 c.from_residual-in_err-constraints.ensures.1
     (constraints_fail c.args.book.now c.args.stations c.args.place c.in_ok-head.head h.1 h.0
-    e.0 (held c.in_ok-events.events) c.as_slice-listed.result.now e.1 c.as_slice-listed.ensures c.in_ok-check_pairs.ensures.0
+    e.0 c.in_ok-events.events.items e.1 c.in_ok-check_pairs.ensures.0
     c.in_err-constraints.field-0.0 c.in_err-constraints.ensures)
 
 pub returns-then-not-is_sound : goal.returns-then-not-is_sound
@@ -33,7 +32,7 @@ returns-then-not-is_sound g c =
     let h = c.in_ok-head.ensures in
     let e = c.in_ok-events.ensures in
     order_fails c.args.book.now c.args.stations c.args.place c.in_ok-head.head h.1 h.0
-    e.0 (held c.in_ok-events.events) c.as_slice-listed.result.now e.1 c.as_slice-listed.ensures c.in_ok-check_pairs.ensures.0
+    e.0 c.in_ok-events.events.items e.1 c.in_ok-check_pairs.ensures.0
     c.in_ok-constraints.ensures.0 c.is_acyclic-is_sound.result c.is_acyclic-is_sound.ensures c.if-not-is_sound.true
 
 pub returns : goal.returns
@@ -45,10 +44,10 @@ returns g c =
     let place = c.args.place in
     let head = c.in_ok-head.head in (
       order_passes b c.args.stations place head h.1 h.0
-          e.0 (held c.in_ok-events.events) c.as_slice-listed.result.now e.1 c.as_slice-listed.ensures c.in_ok-check_pairs.ensures.0
+          e.0 c.in_ok-events.events.items e.1 c.in_ok-check_pairs.ensures.0
           cs.0 c.is_acyclic-is_sound.result c.is_acyclic-is_sound.ensures c.if-not-is_sound.false,
       record {
-        chart = chart_is b c.args.stations place head h.1 h.0 e.0 (held c.in_ok-events.events) c.as_slice-listed.result.now e.1 c.as_slice-listed.ensures (held c.in_ok-constraints.constraints) cs.1;
+        chart = chart_is b c.args.stations place head h.1 h.0 e.0 c.in_ok-events.events.items e.1 c.in_ok-constraints.constraints.items cs.1;
         next_is = ap (λ (h : ChartHead). place + 3 + 3 * h.events + 6 * h.constraints) h.1;
         near = chart_near b c.args.stations place head h.1 h.0;
       },

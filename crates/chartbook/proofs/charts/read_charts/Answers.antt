@@ -1,4 +1,4 @@
-use Rattle.std.proofs.Common.{◌≡◌, ℕ, ◌+◌, List, Some, None, refl, ap, ◌∙◌, subst}
+use Rattle.std.proofs.Common.{◌≡◌, ℕ, ◌+◌, List, Some, None, refl, ap, length, ◌∙◌, subst}
 use Rattle.bookformat.specs.Layout.{chart_place}
 use Rattle.bookformat.specs.Reading.{Test, first_fault, chart_tests}
 use Rattle.bookformat.proofs.Faults.{each_fails, each_passes}
@@ -7,7 +7,7 @@ use Rattle.chartbook.proofs.ChartLists.{charts_none, charts_more}
 use Rattle.chartbook.proofs.charts.read_charts.Goals as goal
 
 pub loop-k-init : goal.loop-k-init
-loop-k-init g c = (refl, charts_none c.args.book.now c.new-charts.result c.new-charts.ensures.0, c.new-charts.ensures.1)
+loop-k-init g c = (refl, charts_none c.args.book.now c.new-charts.result c.new-charts.ensures, ap length c.new-charts.ensures)
 
 pub returns-in_err-chart : goal.returns-in_err-chart
 returns-in_err-chart g c =

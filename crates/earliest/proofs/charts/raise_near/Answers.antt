@@ -1,5 +1,5 @@
 use Rattle.std.proofs.Common.{arith}
-use Rattle.bookformat.specs.Values.{book_value}
+use Rattle.bookformat.specs.Books.{book_value}
 use Rattle.earliest.proofs.Risen.{one_more, all_met, drift_met}
 use Rattle.earliest.proofs.charts.raise_near.Goals as goal
 

@@ -1,4 +1,4 @@
-use Rattle.bookformat.specs.Values.{book_value}
+use Rattle.bookformat.specs.Books.{book_value}
 use Rattle.earliest.specs.Raising.{Raises}
 use Rattle.earliest.specs.Demands.{Each, DriftKept}
 use Rattle.earliest.proofs.charts.raise_near.Given as goal

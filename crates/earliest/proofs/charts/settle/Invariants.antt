@@ -1,5 +1,5 @@
 use Rattle.std.proofs.Common.{Bool}
-use Rattle.bookformat.specs.Values.{book_value}
+use Rattle.bookformat.specs.Books.{book_value}
 use Rattle.bookformat.specs.Rules.{chart}
 use Rattle.earliest.specs.Raising.{Rises}
 use Rattle.earliest.specs.Demands.{ChartKept}

@@ -1,15 +1,13 @@
-use Rattle.std.proofs.Common.{arith}
-use Rattle.bookformat.specs.Values.{book_value}
-use Rattle.report.proofs.Whole.{report_short, report_whole}
+use Rattle.std.proofs.Common.{ℕ, ◌^◌, ◌<◌, arith}
+use Rattle.std.proofs.lemmas.List.Elements.{All-from_get_or}
+use Rattle.bookformat.specs.Books.{book_value}
+use Rattle.bookformat.proofs.Known.{is_good}
+use Rattle.report.proofs.Short.{report_short}
 use Rattle.report.proofs.found.write_path.Goals as goal
 
-pub returns-then-text-needed : goal.returns-then-text-needed
-returns-then-text-needed c =
-    report_short (book_value c.args.book.now) c.args.links.now c.args.dates.now c.chart_count-charts.result c.chart_count-charts.ensures _ c.args.text.now
-    (omega (arith, c.runs_length.ensures.0, c.lines_length.ensures.0)) c.if-text-needed.true
-
-pub returns : goal.returns
-returns c =
-    report_whole (book_value c.args.book.now) c.args.links.now c.args.dates.now c.chart_count-charts.result c.chart_count-charts.ensures
-    c.args.text.now c.put_runs-behind_head.new.space c.put_lines.new.space c.put_runs-behind_head.result c.put_lines.result
-    (omega (arith, c.runs_length.ensures.0, c.lines_length.ensures.0, c.if-text-needed.false)) c.put_runs-behind_head.ensures c.put_lines.ensures
+pub write-requires : goal.write-requires
+write-requires c =
+    let P : ℕ → Type 0 = λ date. date < 2 ^ 64 in
+    let path = c.args.path.now in
+    let dates = c.args.dates.now in
+    report_short (book_value path.book.now) path.links.now dates (record { good = is_good path.book.now; is_path = path.path; few = path.few }) (All-from_get_or P dates 0 (λ i _. omega (arith, c.type_inv.dates i)))

@@ -1,10 +1,10 @@
 use Rattle.std.proofs.Common.{refl, ◌∙◌, arith}
-use Rattle.bookformat.specs.Values.{book_value}
+use Rattle.bookformat.specs.Books.{book_value}
 use Rattle.walk.proofs.Onward.{under_none, under_more, next_exists, gone_closed, gone_whole}
 use Rattle.walk.proofs.going.go_on.Goals as goal
 
 pub loop-steps-init : goal.loop-steps-init
-loop-steps-init g c = (refl, under_none (book_value c.args.book.now) (g.R.Register.capacity c.args.register.now) (g.R.Register.rows c.args.register.now) c.args.phase c.requires.exists)
+loop-steps-init g c = (refl, under_none (book_value c.args.book.now) (g.R.Register.capacity c.args.register.now) (g.R.Register.rows c.args.register.now) c.args.phase c.requires)
 
 pub returns-in_default : goal.returns-in_default
 returns-in_default g c = record {
@@ -13,7 +13,7 @@ returns-in_default g c = record {
 }
 
 pub step-at-requires : goal.step-at-requires
-step-at-requires g c = record { good = c.requires.good; exists = next_exists (book_value c.args.book.now) c.loop-steps.at c.in-Open.place c.in-Open.link c.in-Open.is c.loop-steps.invariant.1.exists }
+step-at-requires g c = next_exists (book_value c.args.book.now) c.loop-steps.at c.in-Open.place c.in-Open.link c.in-Open.is c.loop-steps.invariant.1.exists
 
 pub loop-steps-preserved : goal.loop-steps-preserved
 loop-steps-preserved g c = (

@@ -1,5 +1,5 @@
 use Rattle.std.proofs.Common.{◌≡◌}
-use Rattle.bookformat.specs.Values.{book_value}
+use Rattle.bookformat.specs.Books.{book_value}
 use Rattle.walk.proofs.Onward.{Under}
 use Rattle.walk.proofs.going.go_on.Given as goal
 

@@ -1,5 +1,5 @@
 use Rattle.std.proofs.Common.{ℕ, Some, None, subst, arith}
-use Rattle.bookformat.specs.Values.{book_value}
+use Rattle.bookformat.specs.Books.{book_value}
 use Rattle.walk.specs.Trying.{FirstFrom}
 use Rattle.walk.proofs.Seeking.{sought_found, sought_more, sought_none}
 use Rattle.walk.proofs.pairs.next_pair.Goals as goal

@@ -1,4 +1,4 @@
-use Rattle.bookformat.specs.Values.{book_value}
+use Rattle.bookformat.specs.Books.{book_value}
 use Rattle.walk.proofs.Seeking.{Sought}
 use Rattle.walk.proofs.pairs.next_pair.Given as goal
 

@@ -1,5 +1,5 @@
 use Rattle.std.proofs.Common.{refl, ⊎_elim}
-use Rattle.bookformat.specs.Values.{book_value}
+use Rattle.bookformat.specs.Books.{book_value}
 use Rattle.register.specs.Meaning.{row_at}
 use Rattle.walk.proofs.Entering.{follows_runs, follows_on, follows_barred, follows_known}
 use Rattle.walk.proofs.stepping.phase_after.Goals as goal

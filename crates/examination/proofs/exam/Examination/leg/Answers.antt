@@ -1,5 +1,5 @@
 use Rattle.std.proofs.Common.{ℕ, subst}
-use Rattle.bookformat.specs.Values.{book_value}
+use Rattle.bookformat.specs.Books.{book_value}
 use Rattle.examination.specs.Chains.{ClimbsTo}
 use Rattle.examination.proofs.Telling.{goal_runs, leg_past, leg_here}
 use Rattle.examination.proofs.exam.Examination.leg.Goals as goal

@@ -1,0 +1,33 @@
+-- Where the dates of a path's charts stand.
+use Rattle.std.proofs.Common.{◌≡◌, ℕ, zero, suc, ◌+◌, ◌*◌, ◌^◌, ◌<◌, ◌≤◌, List, length, sym, ap, ◌∙◌, subst, add-one, arith}
+use Rattle.bookformat.specs.Values.{BookValue}
+use Rattle.bookformat.specs.Rules.{chart, GoodBook}
+use Rattle.paths.specs.Charts.{event_count}
+use Rattle.paths.specs.Paths.{chart_number, chart_at}
+use Rattle.paths.specs.Listing.{events_before, events_of}
+use Rattle.paths.proofs.Facts.{chart_facts}
+use Rattle.paths.proofs.Listed.{before_rises}
+use Rattle.routes.specs.declared.stop.Stop.{Stop}
+use Rattle.routes.specs.Stops.{At}
+
+pub before_most : (b : BookValue) → GoodBook b → (path : List ℕ) (k : ℕ) → events_before b path k ≤ 48 * k
+before_most b good path zero = omega arith
+before_most b good path (suc k) = omega (arith, before_most b good path k, (chart_facts b good (chart_number b path k)).count)
+
+module _ (b : BookValue) (path : List ℕ) (k : ℕ) (s : Stop) (at : At b path k s) where
+  pub count_at : length s.full.stations.items ≡ event_count b (chart_at b path k)
+  count_at = ap length at.full.stations ∙ ap (λ n. event_count b (chart b n)) at.number
+
+  -- the dates of the next position begin where those of this one end
+  pub end_is : s.first + length s.full.stations.items ≡ events_before b path (suc k)
+  end_is = omega (arith, count_at, at.first)
+
+  pub next_first : s.first + length s.full.stations.items ≡ events_before b path (k + 1)
+  next_first = subst (λ j. s.first + length s.full.stations.items ≡ events_before b path j) (sym (add-one k)) end_is
+
+  pub end_fits : GoodBook b → k ≤ 4095 → s.first + length s.full.stations.items < 2 ^ 64
+  end_fits good few = omega (arith, end_is, before_most b good path (suc k))
+
+  -- and lie within those of the path
+  pub inside : k ≤ length path → s.first + length s.full.stations.items ≤ events_of b path
+  inside h = omega (arith, end_is, before_rises b path (suc k) (suc (length path)) (omega arith))

@@ -1,0 +1,30 @@
+use fullchart::FullChart;
+
+/// A chart on a path: its number, its full chart, and the place of its first date among those of the path.
+#[derive(Drop)]
+pub struct Stop {
+    pub number: usize,
+    pub full: FullChart,
+    pub first: usize,
+}
+
+impl Stop {
+    ghost use Rattle.std.specs.Prelude.{◌≡◌, ◌+◌, ◌^◌, ◌<◌, ◌≤◌, length};
+    ghost use Rattle.routes.specs.Stops.{dates_of};
+
+    /// The place behind its last date.
+    pub fn end(&self) -> usize
+        requires { self.now.first + length self.now.full.stations.items < 2 ^ 64 }
+        ensures { result ≡ self.now.first + length self.now.full.stations.items }
+    {
+        self.first + self.full.count()
+    }
+
+    /// Its part of the dates of the path.
+    pub fn dates<'a>(&self, dates: &'a [u32]) -> &'a [u32]
+        requires { self.now.first + length self.now.full.stations.items ≤ length dates.now }
+        ensures { result.now ≡ dates_of self.now dates.now }
+    {
+        &dates[self.first..self.first + self.full.count()]
+    }
+}

@@ -1,7 +1,0 @@
-use Rattle.std.proofs.Common.{sym, ◌∙◌}
-use Rattle.steps.proofs.Entered.{before_entered}
-use Rattle.steps.proofs.parts.add_before.Goals as goal
-
-pub returns-then-is_directly_before : goal.returns-then-is_directly_before
-returns-then-is_directly_before c =
-    before_entered c.args.places c.args.table.now c.args.events.now c.args.first c.args.e c.args.f c.tighten.new.table (sym c.is_directly_before.ensures ∙ c.if-is_directly_before.true) c.tighten.ensures
