@@ -11,3 +11,4 @@ pub mod Taken
 pub mod GoodTaken
 pub mod Known
 pub mod Smallest
+pub mod Copies

@@ -3,6 +3,7 @@ ghost use Rattle.bookformat.specs.Rules.{GoodBook};
 
 use crate::value::{Chart, Event, Kind, Link};
 use arrayvec::ArrayVec;
+use std::alloc::AllocError;
 
 /// A chart book that keeps every rule. The format's own limits size its storage.
 #[derive(Drop)]
@@ -14,6 +15,26 @@ pub struct Book {
     pub charts: ArrayVec<Chart, 32>,
     pub links: ArrayVec<Link, 128>,
     pub ghost good: { ∥ GoodBook (value_of stations first near far charts.items links.items) ∥₁ },
+}
+
+// (By hand, as a copy has to be seen to be the same book, and so good.)
+impl Clone for Book {
+    ghost use Rattle.std.specs.Prelude.{◌≡◌};
+
+    ghost is_clone = { λ old new. new ≡ old };
+
+    ghost is_infallible = { λ _. Unit {0} };
+
+    fn clone(&self) -> Result<Book, AllocError> {
+        Ok(Book {
+            stations: self.stations,
+            first: self.first,
+            near: self.near,
+            far: self.far,
+            charts: self.charts.clone()?,
+            links: self.links.clone()?,
+        })
+    }
 }
 
 impl Book {

@@ -1,4 +1,7 @@
+ghost use Rattle.std.specs.Prelude.{◌≡◌};
+
 use arrayvec::ArrayVec;
+use std::alloc::AllocError;
 
 /// What an event does on its station.
 #[derive(Clone, Copy, Debug, Default, PartialEq, Eq)]
@@ -37,6 +40,21 @@ pub struct Chart {
     pub events: ArrayVec<Event, 40>,
     pub constraints: ArrayVec<Constraint, 64>,
     pub is_final: bool,
+}
+
+// (By hand, as a copy has to be seen to be the same chart.)
+impl Clone for Chart {
+    ghost is_clone = { λ old new. new ≡ old };
+
+    ghost is_infallible = { λ _. Unit {0} };
+
+    fn clone(&self) -> Result<Chart, AllocError> {
+        Ok(Chart {
+            events: self.events.clone()?,
+            constraints: self.constraints.clone()?,
+            is_final: self.is_final,
+        })
+    }
 }
 
 /// Chart `to` may follow chart `from`, with an interval for each station.

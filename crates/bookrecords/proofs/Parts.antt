@@ -7,7 +7,3 @@ module _ (b part : List ℕ) (place len : ℕ) (in_book : place + len ≤ length
 
   pub part_byte : (k : ℕ) → k < len → get_or part k 0 ≡ get_or b (place + k) 0
   part_byte k h = ap (λ (l : List ℕ). get_or l k 0) is ∙ get_or-take len (drop place b) k 0 h ∙ get_or-drop place b k 0
-
-  -- with the length under another name
-  pub part_told : (size : ℕ) → len ≡ size → (place + size ≤ length b) × (length part ≡ size) × ((k : ℕ) → k < size → get_or part k 0 ≡ get_or b (place + k) 0)
-  part_told size e = (omega arith, part_length ∙ e, λ k h. part_byte k (omega arith))

@@ -4,17 +4,6 @@ use Rattle.std.specs.Borrow.{Bor}
 use Rattle.bookformat.specs.declared.fault.Fault.{Fault}
 use Rattle.bookformat.specs.declared.fault.Fault.TheVariants.{RecordCut}
 use Rattle.bookformat.specs.Layout.{byte}
-use Rattle.bookrecords.specs.declared.records.RecordKind.{RecordKind}
-use Rattle.bookrecords.specs.declared.records.RecordKind.TheVariants.{Mark, Header, ChartHead, Event, Constraint, Link}
-
--- how many bytes a record of a kind has
-abbrev pub size : RecordKind → ℕ
-size Mark = 5
-size Header = 8
-size ChartHead = 3
-size Event = 3
-size Constraint = 6
-size Link = 34
 
 -- the `len` bytes at a place, where they lie wholly in the book
 abbrev pub Handed : List ℕ → ℕ → ℕ → Result (Bor (List ℕ)) Fault → Type 0

@@ -5,7 +5,7 @@ ghost use Rattle.bookrecords.specs.Answers.{Tested};
 ghost use Rattle.bookrecords.specs.Headers.{header_at};
 
 use crate::fields::Header;
-use crate::records::{RecordKind, Watch, watched_record};
+use crate::records::{RecordBytes, Watch, sized_record};
 use bookformat::Fault;
 
 /// Tests the three letters and the version at the front of the book.
@@ -24,7 +24,8 @@ fn check_mark(book: &[u8]) -> Result<(), Fault>
 fn read_rest<W: Watch>(book: &[u8], watch: &mut W) -> Result<Header, Fault>
     ensures { Tested result (header_tests book.now) (λ h. h ≡ header_at book.now) }
 {
-    let part = watched_record(book, RecordKind::Header, 0, 5, watch)?;
+    let part = sized_record(book, 5)?;
+    watch.record(RecordBytes::Header(part), 0, 5);
     let [
         stations,
         charts,
@@ -34,17 +35,14 @@ fn read_rest<W: Watch>(book: &[u8], watch: &mut W) -> Result<Header, Fault>
         near_low,
         far_high,
         far_low,
-    ] = part
-    else {
-        return Err(Fault::RecordCut { place: 5 });
-    };
+    ] = *part;
     Header {
-        stations: *stations,
-        charts: usize::from(*charts),
-        first: *first,
-        links: usize::from(*links),
-        near: u16::from_be_bytes([*near_high, *near_low]),
-        far: u16::from_be_bytes([*far_high, *far_low]),
+        stations,
+        charts: usize::from(charts),
+        first,
+        links: usize::from(links),
+        near: u16::from_be_bytes([near_high, near_low]),
+        far: u16::from_be_bytes([far_high, far_low]),
     }
     .tested()
 }
@@ -52,7 +50,7 @@ fn read_rest<W: Watch>(book: &[u8], watch: &mut W) -> Result<Header, Fault>
 pub fn read_header<W: Watch>(book: &[u8], watch: &mut W) -> Result<Header, Fault>
     ensures { Tested result (mark_tests book.now ++ header_tests book.now) (λ h. (h ≡ header_at book.now) × Octets book.now) }
 {
-    watched_record(book, RecordKind::Mark, 0, 0, watch)?;
+    watch.record(RecordBytes::Mark(sized_record(book, 0)?), 0, 0);
     check_mark(book)?;
     read_rest(book, watch)
 }

@@ -12,5 +12,8 @@ pub use fields::{
 };
 pub use headers::read_header;
 pub use lists::{Listed, read_list};
-pub use records::{RecordKind, Unwatched, Watch, record, watched_record};
-pub use singles::{EventSetting, read_head};
+pub use records::{
+    CONSTRAINT_SIZE, EVENT_SIZE, HEAD_SIZE, LINK_SIZE, RecordBytes, Unwatched, Watch, record,
+    sized_record,
+};
+pub use singles::{EventSetting, read_constraint, read_head};

@@ -1,40 +1,37 @@
 ghost use Rattle.std.specs.Prelude.{◌≡◌};
-ghost use Rattle.bookrecords.specs.Records.{Handed, Told, size};
+ghost use Rattle.bookrecords.specs.Records.{Handed, Told};
 
 use bookformat::Fault;
 
-/// What a record of a book is.
-#[derive(Clone, Copy)]
-pub enum RecordKind {
-    Mark,
-    Header,
-    ChartHead,
-    Event,
-    Constraint,
-    Link,
-}
+/// How many bytes a chart's head has.
+pub const HEAD_SIZE: usize = 3;
 
-impl RecordKind {
-    /// How many bytes such a record has.
-    pub fn size(self) -> usize
-        ensures { result ≡ size self }
-    {
-        match self {
-            RecordKind::Mark => 5,
-            RecordKind::Header => 8,
-            RecordKind::ChartHead => 3,
-            RecordKind::Event => 3,
-            RecordKind::Constraint => 6,
-            RecordKind::Link => 34,
-        }
-    }
+/// How many bytes an event has.
+pub const EVENT_SIZE: usize = 3;
+
+/// How many bytes a constraint has.
+pub const CONSTRAINT_SIZE: usize = 6;
+
+/// How many bytes a link has.
+pub const LINK_SIZE: usize = 34;
+
+/// A record of a book, by its bytes.
+#[derive(Clone, Copy)]
+pub enum RecordBytes<'a> {
+    Mark(&'a [u8; 5]),
+    Header(&'a [u8; 8]),
+    ChartHead(&'a [u8; HEAD_SIZE]),
+    Event(&'a [u8; EVENT_SIZE]),
+    Constraint(&'a [u8; CONSTRAINT_SIZE]),
+    Link(&'a [u8; LINK_SIZE]),
 }
 
 /// Is told what the reader of a book meets.
+// (The book and its watcher go side by side: a struct of both would say in each contract that its book stays.)
 pub trait Watch {
     /// A record, as soon as it lies wholly in the book, before its fields are tested. `number` counts
     /// charts and links in their book, events and constraints in their chart.
-    fn record(&mut self, kind: RecordKind, number: usize, place: usize, bytes: &[u8]);
+    fn record(&mut self, record: RecordBytes<'_>, number: usize, place: usize);
 
     /// Whether no event of the chart comes before itself.
     fn order(&mut self, chart: usize, is_sound: bool);
@@ -45,7 +42,7 @@ pub trait Watch {
 pub struct Unwatched;
 
 impl Watch for Unwatched {
-    fn record(&mut self, _kind: RecordKind, _number: usize, _place: usize, _bytes: &[u8]) {}
+    fn record(&mut self, _record: RecordBytes<'_>, _number: usize, _place: usize) {}
 
     fn order(&mut self, _chart: usize, _is_sound: bool) {}
 }
@@ -61,18 +58,9 @@ pub fn record(book: &[u8], place: usize, len: usize) -> Result<&[u8], Fault>
     Ok(&book[place..place + len])
 }
 
-// (The book and its watcher go side by side: a struct of both would say in each contract that its book stays.)
-/// The record of a kind at a place, which the watcher is told of.
-pub fn watched_record<'a, W: Watch>(
-    book: &'a [u8],
-    kind: RecordKind,
-    number: usize,
-    place: usize,
-    watch: &mut W,
-) -> Result<&'a [u8], Fault>
-    ensures { Told book.now place (size kind) result }
+/// The record of `N` bytes at a place, where it lies wholly in the book.
+pub fn sized_record<const N: usize>(book: &[u8], place: usize) -> Result<&[u8; N], Fault>
+    ensures { Told book.now place N result }
 {
-    let part = record(book, place, kind.size())?;
-    watch.record(kind, number, place, part);
-    Ok(part)
+    Ok(record(book, place, N)?.as_array().unwrap())
 }

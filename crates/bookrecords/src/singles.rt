@@ -6,7 +6,7 @@ ghost use Rattle.std.proofs.Common.{rules};
 
 use crate::fields::{ChartHead, chart_head, constraint, event};
 use crate::lists::Listed;
-use crate::records::{RecordKind, Watch, watched_record};
+use crate::records::{CONSTRAINT_SIZE, EVENT_SIZE, RecordBytes, Watch, sized_record};
 use bookformat::{ArrayVec, Constraint, Event, Fault, Interval};
 
 pub fn read_head<W: Watch>(
@@ -18,14 +18,13 @@ pub fn read_head<W: Watch>(
     requires { place ≤ 20000 }
     ensures { Tested result (head_tests book.now place) (λ h. h ≡ record { events = byte book.now place; constraints = byte book.now (place + 1); is_final = (byte book.now (place + 2) == 1) }) }
 {
-    let part = watched_record(book, RecordKind::ChartHead, number, place, watch)?;
-    let [events, constraints, final_mark] = part else {
-        return Err(Fault::RecordCut { place });
-    };
+    let part = sized_record(book, place)?;
+    watch.record(RecordBytes::ChartHead(part), number, place);
+    let [events, constraints, final_mark] = *part;
     chart_head(
-        usize::from(*events),
-        usize::from(*constraints),
-        *final_mark,
+        usize::from(events),
+        usize::from(constraints),
+        final_mark,
         place,
     )
 }
@@ -38,7 +37,7 @@ pub struct EventSetting {
 }
 
 impl Listed<EventSetting> for Event {
-    const SIZE: usize = 3;
+    const SIZE: usize = EVENT_SIZE;
 
     ghost SIZE = { 3 };
 
@@ -55,17 +54,33 @@ impl Listed<EventSetting> for Event {
         setting: &EventSetting,
         watch: &mut W,
     ) -> Result<Event, Fault> {
-        let part = watched_record(book, RecordKind::Event, number, place, watch)?;
-        let [station, kind, pair] = part else {
-            return Err(Fault::RecordCut { place });
-        };
-        event(*station, *kind, *pair, setting, place)
+        let part = sized_record(book, place)?;
+        watch.record(RecordBytes::Event(part), number, place);
+        let [station, kind, pair] = *part;
+        event(station, kind, pair, setting, place)
     }
+}
+
+/// The constraint at a place, in a chart with such events.
+pub fn read_constraint<W: Watch>(
+    book: &[u8],
+    place: usize,
+    number: usize,
+    events: &[Event],
+    watch: &mut W,
+) -> Result<Constraint, Fault>
+    ensures { Tested result (constraint_tests book.now events.now place) (λ c. c ≡ constraint_at book.now place) }
+{
+    let part = sized_record(book, place)?;
+    watch.record(RecordBytes::Constraint(part), number, place);
+    let [first, second, lower_high, lower_low, upper_high, upper_low] = *part;
+    let interval = Interval::from([lower_high, lower_low, upper_high, upper_low]);
+    constraint(first, second, interval, events, place)
 }
 
 /// A constraint's tests go by the events of its chart.
 impl Listed<ArrayVec<Event, 40>> for Constraint {
-    const SIZE: usize = 6;
+    const SIZE: usize = CONSTRAINT_SIZE;
 
     ghost SIZE = { 6 };
 
@@ -82,11 +97,6 @@ impl Listed<ArrayVec<Event, 40>> for Constraint {
         events: &ArrayVec<Event, 40>,
         watch: &mut W,
     ) -> Result<Constraint, Fault> {
-        let part = watched_record(book, RecordKind::Constraint, number, place, watch)?;
-        let [first, second, lower_high, lower_low, upper_high, upper_low] = part else {
-            return Err(Fault::RecordCut { place });
-        };
-        let interval = Interval::from([*lower_high, *lower_low, *upper_high, *upper_low]);
-        constraint(*first, *second, interval, events, place)
+        read_constraint(book, place, number, events, watch)
     }
 }

@@ -3,3 +3,4 @@ pub mod ChartLists
 pub mod ChartTests
 pub mod LinkTests
 pub mod ReadLaws
+pub mod Pairs

@@ -1,10 +1,12 @@
 -- What the reader of charts answers.
-use Rattle.std.specs.Prelude.{◌≡◌, ℕ, ◌+◌, ◌*◌, ◌≤◌, List, map}
+use Rattle.std.specs.Prelude.{◌≡◌, ℕ, ◌+◌, ◌*◌, ◌<◌, ◌≤◌, true, false, List, length, map}
 use Rattle.std.specs.List.{range_with_len}
 use Rattle.arrayvec.specs.ArrayVec.{ArrayVec}
 use Rattle.bookformat.specs.declared.value.Chart.{Chart}
+use Rattle.bookformat.specs.declared.value.Event.{Event}
 use Rattle.bookformat.specs.Values.{chart_value}
 use Rattle.bookformat.specs.Layout.{byte, chart_at, constraints_place, chart_place}
+use Rattle.bookformat.specs.Reading.{is_paired}
 
 -- the chart whose head is at a place, and the place behind it
 pub record ChartRead (b : List ℕ) (place : ℕ) (c : Chart) (next : ℕ) : Type 0 where
@@ -17,3 +19,11 @@ pub record ChartsRead (b : List ℕ) (count : ℕ) (cs : ArrayVec Chart) (next :
   pub charts : map chart_value cs.items ≡ map (λ k. chart_at b (chart_place b k)) (range_with_len 0 count)
   pub next_is : next ≡ chart_place b count
   pub near : next ≤ 13 + 507 * count
+
+-- every event is paired
+abbrev pub AllPaired : List Event → Type 0
+AllPaired es = (k : ℕ) → k < length es → is_paired es k ≡ true
+
+-- e is the first event that is not paired
+abbrev pub FirstUnpaired : List Event → ℕ → Type 0
+FirstUnpaired es e = (e < length es) × (is_paired es e ≡ false) × ((k : ℕ) → k < e → is_paired es k ≡ true)

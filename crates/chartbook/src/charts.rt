@@ -1,26 +1,33 @@
-ghost use Rattle.std.specs.Prelude.{◌≡◌, ℕ, ◌+◌, ◌*◌, ◌<◌, ◌≤◌, length};
+ghost use Rattle.std.specs.Prelude.{◌≡◌, ℕ, ◌+◌, ◌*◌, ◌<◌, ◌≤◌, length, MatchOption};
 ghost use Rattle.bookformat.specs.Layout.{event_at, constraint_at, records, chart_place};
 ghost use Rattle.bookformat.specs.Reading.{each, event_tests, pair_tests, constraint_tests, chart_tests};
 ghost use Rattle.bookrecords.specs.Answers.{Tested};
-ghost use Rattle.chartbook.specs.Answers.{ChartRead, ChartsRead};
+ghost use Rattle.chartbook.specs.Answers.{AllPaired, ChartRead, ChartsRead, FirstUnpaired};
 
 use bookformat::{ArrayVec, Chart, Event, Fault};
-use bookrecords::{EventSetting, Watch, is_paired, read_head, read_list};
+use bookrecords::{
+    CONSTRAINT_SIZE, EVENT_SIZE, EventSetting, HEAD_SIZE, Watch, is_paired, read_head, read_list,
+};
 use chartorder::is_acyclic;
+
+/// The first event that is not paired.
+fn first_unpaired(events: &[Event]) -> Option<usize>
+    ensures { MatchOption result (AllPaired events.now) (FirstUnpaired events.now) }
+{
+    (0..events.len()).find(|e| !is_paired(events, *e))
+}
 
 /// Tests each event's pairing, in turn; `place` is that of the first event record.
 fn check_pairs(events: &ArrayVec<Event, 40>, place: usize) -> Result<(), Fault>
     requires { place ≤ 20003 }
     ensures { Tested result (each (pair_tests events.now.items place) (length events.now.items)) (λ _. Unit {0}) }
 {
-    for (e, _) in events.iter().enumerate() {
-        if !is_paired(events, e) {
-            return Err(Fault::BadEvent {
-                place: place + 3 * e,
-            });
-        }
+    match first_unpaired(events) {
+        Some(e) => Err(Fault::BadEvent {
+            place: place + EVENT_SIZE * e,
+        }),
+        None => Ok(()),
     }
-    Ok(())
 }
 
 /// The chart whose head is at `place`, and the place behind it.
@@ -39,16 +46,17 @@ fn read_chart<W: Watch>(
         stations,
         events: head.events,
     };
-    let events = read_list(book, place + 3, head.events, &setting, watch)?;
-    check_pairs(&events, place + 3)?;
-    let at = place + 3 + 3 * head.events;
-    let constraints = read_list(book, at, head.constraints, &events, watch)?;
+    let events_place = place + HEAD_SIZE;
+    let events = read_list(book, events_place, head.events, &setting, watch)?;
+    check_pairs(&events, events_place)?;
+    let constraints_place = events_place + EVENT_SIZE * head.events;
+    let constraints = read_list(book, constraints_place, head.constraints, &events, watch)?;
     let is_sound = is_acyclic(&events);
     watch.order(number, is_sound);
     if !is_sound {
         return Err(Fault::CyclicOrder { place });
     }
-    let next = at + 6 * head.constraints;
+    let next = constraints_place + CONSTRAINT_SIZE * head.constraints;
     Ok((
         Chart {
             events,

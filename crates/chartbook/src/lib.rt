@@ -8,5 +8,5 @@ mod reader;
 pub use bookformat::{
     ArrayVec, Book, Chart, Constraint, Event, Fault, Interval, Kind, Link, Refusal,
 };
-pub use bookrecords::{RecordKind, Unwatched, Watch, record};
+pub use bookrecords::{RecordBytes, Unwatched, Watch, record};
 pub use reader::{read_book, read_watched};

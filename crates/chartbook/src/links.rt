@@ -7,7 +7,8 @@ ghost use Rattle.std.proofs.Common.{rules};
 
 use bookformat::{ArrayVec, Chart, Event, Fault, Interval, Link};
 use bookrecords::{
-    Header, Listed, RecordKind, Watch, check_ends, check_interval, is_apart, watched_record,
+    Header, LINK_SIZE, Listed, RecordBytes, Watch, check_ends, check_interval, is_apart,
+    sized_record,
 };
 
 /// What a link's tests go by: the header, and all charts.
@@ -19,28 +20,27 @@ pub struct Front {
 
 /// The intervals in the record of a link between charts with such events.
 fn read_intervals(
-    part: &[u8],
+    part: &[u8; LINK_SIZE],
     place: usize,
     stations: u8,
     before: &[Event],
     after: &[Event],
 ) -> Result<[Interval; 8], Fault>
-    requires { length part.now ≡ 34 }
     ensures { Tested result (each (λ p. station_tests (interval_at part.now (2 + 4 * p)) (is_apart stations before.now after.now p) place) 8) (λ is. is ≡ records (interval_at part.now) 4 2 8) }
 {
     let mut intervals = [Interval::default(); 8];
-    // (By a station's number, which says where its bytes stand and whether it is apart.)
-    for p in 0..8 {
-        let at = 2 + 4 * p;
-        let interval = Interval::from([part[at], part[at + 1], part[at + 2], part[at + 3]]);
-        check_interval(interval, is_apart(stations, before, after, p), place)?;
-        intervals[p] = interval;
+    // (Its bytes by the station's number: zipped with their chunks, the loop names no list of the intervals written.)
+    for (station, interval) in intervals.iter_mut().enumerate() {
+        let at = 2 + 4 * station;
+        let read = Interval::from([part[at], part[at + 1], part[at + 2], part[at + 3]]);
+        check_interval(read, is_apart(stations, before, after, station), place)?;
+        *interval = read;
     }
     Ok(intervals)
 }
 
 impl Listed<Front> for Link {
-    const SIZE: usize = 34;
+    const SIZE: usize = LINK_SIZE;
 
     ghost SIZE = { 34 };
 
@@ -57,19 +57,18 @@ impl Listed<Front> for Link {
         front: &Front,
         watch: &mut W,
     ) -> Result<Link, Fault> {
-        let part = watched_record(book, RecordKind::Link, number, place, watch)?;
-        let [from, to, ..] = part else {
-            return Err(Fault::RecordCut { place });
-        };
-        let earlier = usize::from(*from);
-        let later = usize::from(*to);
+        let part = sized_record(book, place)?;
+        watch.record(RecordBytes::Link(part), number, place);
+        let [from, to, ..] = *part;
+        let earlier = usize::from(from);
+        let later = usize::from(to);
         check_ends(earlier, later, front.charts.len(), place)?;
         let before = front.charts[earlier].events.as_slice();
         let after = front.charts[later].events.as_slice();
         let intervals = read_intervals(part, place, front.header.stations, before, after)?;
         Ok(Link {
-            from: *from,
-            to: *to,
+            from,
+            to,
             intervals,
         })
     }

@@ -43,7 +43,8 @@ fn tell<R: Register>(
 fn main(rt: HostRuntime) -> anyhow::Result<()> {
     let heap = rt.alloc();
     let mut bytes = Vec::new(heap);
-    // One byte more than the longest book has shows that there are too many.
+    // One byte more than the longest book has shows that there are too many. (Each program reads for itself:
+    // of what standard input gives no contract can speak, so a function shared by them would promise nothing.)
     rt.stdin().take(LONGEST as u64 + 1).read_to_end(&mut bytes)?;
     let mut work = vec![in heap; 0u32; MOST_DATES]?;
     let mut text = vec![in heap; 0u8; MOST_TEXT]?;

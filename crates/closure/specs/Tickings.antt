@@ -1,7 +1,8 @@
 -- The kind ticks: a whole number, or none.
-use Rattle.std.specs.Prelude.{ℕ, ◌*◌, Bool, true, false, cond, ℤ, pos, ◌+ℤ◌, ◌≤ℤ◌, Some, None, Option, int_lt}
+use Rattle.std.specs.Prelude.{◌≡◌, ℕ, ◌*◌, Bool, true, false, cond, ℤ, pos, ◌+ℤ◌, ◌≤ℤ◌, Some, None, Option, Ok, Err, Result, int_lt}
 use Rattle.closure.specs.Kinds.{Kind, Meaning}
 use Rattle.closure.specs.declared.kinds.Ticks.{Ticks}
+use Rattle.closure.specs.declared.kinds.TooFar.{TooFar}
 
 -- a smaller number is better, and a number better than none
 abbrev pub fewer : Option ℤ → Option ℤ → Bool
@@ -30,6 +31,11 @@ ticks = record { better = fewer; follow = plus; unit = Some (pos 0); none = None
 -- the largest number of 32 bits stands for none, any other for itself
 abbrev pub ticks_value : Ticks → Option ℤ
 ticks_value t = cond (int_lt t.count (pos 2147483647)) (Some t.count) None
+
+-- what is made of the number z: ticks that mean it, if it is near enough to be given
+abbrev pub MakesTicks : ℤ → Result Ticks TooFar → Type 0
+MakesTicks z (Ok t) = WithinTicks 10000 z × (ticks_value t ≡ Some z)
+MakesTicks z (Err _) = WithinTicks 10000 z → ⊥
 
 abbrev pub ticks_meaning : Meaning Ticks
 ticks_meaning = record { Value = Option ℤ; value = ticks_value; kind = ticks }

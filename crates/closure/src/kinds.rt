@@ -1,7 +1,7 @@
 // Two kinds of weight: before, and ticks.
-ghost use Rattle.std.specs.Prelude.{◌≡◌, Some, None, Decides, MatchOption};
+ghost use Rattle.std.specs.Prelude.{◌≡◌, None, Decides};
 ghost use Rattle.closure.specs.Befores.{before_meaning};
-ghost use Rattle.closure.specs.Tickings.{ticks_meaning, ticks_value, WithinTicks};
+ghost use Rattle.closure.specs.Tickings.{ticks_meaning, ticks_value, MakesTicks};
 ghost use Rattle.std.proofs.Common.{rules};
 ghost use Rattle.closure.specs.TicksLaws.{ticks_laws};
 
@@ -51,27 +51,35 @@ impl Weight for Before {
 #[derive(Clone, Copy, PartialEq, Eq, Debug)]
 pub struct Ticks {
     // The largest number stands for none, so that the order is the numbers' own.
+    // (No enum of a number and none: tried, and closing a table took about four times as long.)
     count: i32,
 }
+
+/// A number of ticks that is farther than 10,000 from 0.
+#[derive(Clone, Copy, PartialEq, Eq, Debug)]
+pub struct TooFar;
 
 // How far from 0 a number of ticks may be given.
 const FARTHEST: i32 = 10_000;
 
+impl TryFrom<i32> for Ticks {
+    type Error = TooFar;
+
+    ghost try_from_gives = { MakesTicks };
+
+    /// So many ticks, if that is within 10,000 of 0.
+    fn try_from(count: i32) -> Result<Ticks, TooFar> {
+        if (-FARTHEST..=FARTHEST).contains(&count) {
+            Ok(Ticks { count })
+        } else {
+            Err(TooFar)
+        }
+    }
+}
+
 impl Ticks {
     /// No number of ticks.
     pub const NONE: Ticks = Ticks { count: i32::MAX };
-
-    /// So many ticks, if that is within 10,000 of 0.
-    // (No TryFrom: its error would say no more than None does.)
-    pub fn of(count: i32) -> Option<Ticks>
-        ensures { MatchOption result (WithinTicks 10000 count → ⊥) (λ t. WithinTicks 10000 count × (ticks_value t ≡ Some count)) }
-    {
-        if -FARTHEST <= count && count <= FARTHEST {
-            Some(Ticks { count })
-        } else {
-            None
-        }
-    }
 
     /// The number of ticks, or none.
     pub fn count(self) -> Option<i32>
@@ -105,7 +113,7 @@ impl Weight for Ticks {
     }
 
     fn is_given(self) -> bool {
-        self.is_none() || -FARTHEST <= self.count && self.count <= FARTHEST
+        self.is_none() || (-FARTHEST..=FARTHEST).contains(&self.count)
     }
 
     fn follow(self, next: Ticks) -> Ticks {

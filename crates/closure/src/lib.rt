@@ -1,12 +1,11 @@
+//! Closing a table of weights: one text for every kind of weight.
 #![tactic(auto)]
-
-// Closing a table of weights: one text for every kind of weight.
 
 mod kinds;
 mod tables;
 mod weights;
 
-pub use kinds::{Before, Ticks};
+pub use kinds::{Before, Ticks, TooFar};
 pub use tables::{Table, Unclosed, close};
 pub use weights::Weight;
 
@@ -26,7 +25,7 @@ mod tests {
     }
 
     fn ticks(count: i32) -> Ticks {
-        Ticks::of(count).unwrap_or(Ticks::NONE)
+        Ticks::try_from(count).unwrap_or(Ticks::NONE)
     }
 
     fn count(ticks: Ticks) -> i32 {

@@ -77,6 +77,7 @@ impl<'a, W: Weight> Table<'a, W> {
         ensures filled { Filled (λ i j w. F.post weight i j w) self.new.places self.new.weights.now }
     {
         let places = self.places;
+        // (The index taken apart: tried by rows of `chunks_exact_mut`, but no proof knows what a slice holds after it.)
         for (place, entry) in self.weights.iter_mut().enumerate() {
             *entry = weight(place / places, place % places);
         }

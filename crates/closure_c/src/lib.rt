@@ -1,6 +1,6 @@
+//! Closing at ticks, for C and Rust to call.
 #![tactic(auto)]
 
-// Closing at ticks, for C and Rust to call.
 ghost use Rattle.closure_c.specs.Codes.{Coded};
 
 use closure::{Ticks, Unclosed, close};

@@ -12,8 +12,8 @@ use chartorder::is_directly_before;
 use fullchart::FullChart;
 use routes::Stop;
 
-// As many events as a full chart can have.
-const MAX_EVENTS: usize = 48;
+// A limit on the rounds over one chart: a full chart has at most 46 events.
+const MAX_ROUNDS: usize = 48;
 
 // Event f is dated no earlier than e, if e is directly before it.
 fn raise_before(dates: &mut [u32], first: usize, events: &[Event], e: usize, f: usize) -> bool
@@ -33,7 +33,7 @@ fn raise_later(dates: &mut [u32], first: usize, events: &[Event], e: usize) -> b
     ensures { Raises (Each (length events.now) (BeforeKept events.now first e)) dates.old dates.new result }
 {
     let mut changed = false;
-    // (An index: the date of event f is written while that of e is read.)
+    // (By numbers: `is_directly_before` goes by the numbers of two events, and the date of one is written.)
     for f in 0..events.len() {
         changed |= raise_before(dates, first, events, e, f);
     }
@@ -46,7 +46,7 @@ fn raise_order(dates: &mut [u32], first: usize, events: &[Event]) -> bool
     ensures { Raises (Each (length events.now) (λ e. Each (length events.now) (BeforeKept events.now first e))) dates.old dates.new result }
 {
     let mut changed = false;
-    // (An index: dates around event e are written while its own is read.)
+    // (By numbers: `is_directly_before` goes by the numbers of two events, and dates of the chart are written.)
     for e in 0..events.len() {
         changed |= raise_later(dates, first, events, e);
     }
@@ -83,7 +83,7 @@ fn raise_near(dates: &mut [u32], first: usize, book: &Book, full: &FullChart, e:
     ensures { Raises (Each (length full.now.stations.items) (DriftKept (book_value book.now) full.now.working first e)) dates.old dates.new result }
 {
     let mut changed = false;
-    // (An index: the date of event f is written while that of e is read.)
+    // (By numbers: `drift` goes by the numbers of two events, and the date of one is written.)
     for f in 0..full.count() {
         let date = least_near(book, full, e, f, dates[first + e]);
         changed |= raise(dates, first + f, date);
@@ -97,7 +97,7 @@ fn raise_drift(dates: &mut [u32], first: usize, book: &Book, full: &FullChart) -
     ensures { Raises (Each (length full.now.stations.items) (λ e. Each (length full.now.stations.items) (DriftKept (book_value book.now) full.now.working first e))) dates.old dates.new result }
 {
     let mut changed = false;
-    // (An index: dates around event e are written while its own is read.)
+    // (By numbers: `drift` goes by the numbers of two events, and dates of the chart are written.)
     for e in 0..full.count() {
         changed |= raise_near(dates, first, book, full, e);
     }
@@ -125,7 +125,7 @@ pub fn settle(dates: &mut [u32], book: &Book, stop: &Stop) -> bool
         return false;
     }
     // (So many rounds, none of which needs its number.)
-    for _ in 0..MAX_EVENTS {
+    for _ in 0..MAX_ROUNDS {
         if !raise_chart(dates, book, stop) {
             return true;
         }

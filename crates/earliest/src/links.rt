@@ -7,19 +7,23 @@ ghost use Rattle.earliest.specs.Raising.{Raises};
 ghost use Rattle.earliest.specs.Demands.{Placed, StationKept, LinkKept};
 
 use crate::raising::raise_interval;
-use bookformat::{Book, Link};
+use bookformat::{Book, Interval, Link};
 use fullchart::{first_on, last_on};
 use routes::Stop;
 
 // A station's interval, between its last event before the link and its first after it.
-fn raise_station(dates: &mut [u32], link: &Link, station: u8, left: &Stop, entered: &Stop) -> bool
-    requires exists { station < 8 }
+fn raise_station(
+    dates: &mut [u32],
+    interval: Interval,
+    station: u8,
+    left: &Stop,
+    entered: &Stop,
+) -> bool
     requires left { left.now.first + length left.now.full.stations.items ≤ length dates.old }
     requires entered { entered.now.first + length entered.now.full.stations.items ≤ length dates.old }
-    requires small { (interval link.now station).lower ≤ 10000 }
-    ensures { Raises (StationKept (interval link.now station) station left.now.full.stations.items left.now.first entered.now.full.stations.items entered.now.first) dates.old dates.new result }
+    requires small { interval.lower ≤ 10000 }
+    ensures { Raises (StationKept interval station left.now.full.stations.items left.now.first entered.now.full.stations.items entered.now.first) dates.old dates.new result }
 {
-    let interval = link.intervals[usize::from(station)];
     let last = last_on(&left.full.stations, station);
     let first = first_on(&entered.full.stations, station);
     match (last, first) {
@@ -36,9 +40,8 @@ pub fn raise_link(dates: &mut [u32], book: &Book, link: &Link, left: &Stop, ente
     ensures { Raises (LinkKept (book_value book.now) link.now (chart (book_value book.now) left.now.number) left.now.first (chart (book_value book.now) entered.now.number) entered.now.first) dates.old dates.new result }
 {
     let mut changed = false;
-    // (By the numbers of stations, which the book counts and no list holds.)
-    for station in 0..book.stations {
-        changed |= raise_station(dates, link, station, left, entered);
+    for (station, interval) in (0..book.stations).zip(&link.intervals) {
+        changed |= raise_station(dates, *interval, station, left, entered);
     }
     changed
 }

@@ -1,4 +1,5 @@
 // Sweeps along a path.
+// (Dates and path side by side: tried as one struct with their two facts, `long` and `fits`, where each `&mut self` method has to promise that path and reference stay, so more clauses than those facts are.)
 ghost use Rattle.std.specs.Prelude.{◌≡◌, ℕ, ◌+◌, ◌*◌, ◌<◌, ◌≤◌, false, length, Decides};
 ghost use Rattle.bookformat.specs.Books.{book_value};
 ghost use Rattle.paths.specs.Datings.{Datable};

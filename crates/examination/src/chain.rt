@@ -6,10 +6,8 @@ ghost use Rattle.examination.specs.Chains.{CountsTo, ClimbsTo, LegAt, LinksTo};
 use arrayvec::ArrayVec;
 use history::Leg;
 use register::{Origin, Register};
+use routes::MOST_LINKS;
 use walk::row_at;
-
-// A path through as many rows as a register can hold.
-pub const MOST_LINKS: usize = 4095;
 
 /// Where the row at a place came from.
 pub fn origin_at<R: Register>(register: &R, place: u16) -> Option<Origin>

@@ -8,14 +8,14 @@ ghost use Rattle.examination.specs.Views.{view_of};
 ghost use Rattle.examination.specs.Chains.{CountsIn, GoalIn, DatedLinks};
 ghost use Rattle.examination.specs.Routes.{RouteIn};
 
-use crate::chain::{MOST_LINKS, charts_to, climb, leg_of, links_to};
+use crate::chain::{charts_to, climb, leg_of, links_to};
 use arrayvec::ArrayVec;
 use bookformat::{Book, Fault};
 use chartbook::read_book;
 use earliest::earliest_dates_if_datable;
 use history::{Leg, Phase, State, Verdict};
 use register::Register;
-use routes::BookPath;
+use routes::{BookPath, MOST_LINKS};
 use walk::{Unwatched, Watch, begin_walk, go_on};
 
 /// Looks for a final path of a book that can be dated, step by step. Its rows stand in a register, which the caller holds.
@@ -95,6 +95,7 @@ impl Examination {
     }
 
     /// Makes steps while the state is open and within the budget. Answers how many, and the number of the state.
+    // (Two plain numbers: the project fixes this form.)
     pub fn advance<R: Register>(
         &mut self,
         register: &mut R,

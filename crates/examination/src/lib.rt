@@ -5,7 +5,7 @@ mod chain;
 mod exam;
 mod list;
 
-pub use chain::MOST_LINKS;
+pub use chain::links_to;
 pub use exam::{Examination, date_links};
 pub use history::{Answer, Call, Leg, State, Verdict};
 pub use list::conduct;

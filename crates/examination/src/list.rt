@@ -47,6 +47,7 @@ fn check_room(calls: &[Call], answers: usize, dates: usize) -> Result<(), Fault>
 }
 
 /// One call.
+// (A `match` on the call: a list of calls is data, which the promise about every list compares.)
 fn perform<R: Register>(
     examination: &mut Examination,
     register: &mut R,

@@ -25,6 +25,7 @@ fn walk<R: Register>(
 }
 
 // The number of the state, then 16 bits for the steps. No steps and idle where the book was refused.
+// (One number, since C is handed no Result; and an exported function for each register, since it has no type parameter.)
 fn packed(walked: Result<(u16, u8), Fault>) -> u32
     ensures { result ≡ packed_as walked }
 {

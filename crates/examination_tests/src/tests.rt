@@ -10,7 +10,7 @@ use std::process::Abort;
 use std::test::Fail;
 use worked_books::{Shelf, Title};
 
-// A call, with the title of a book in place of its bytes.
+// A call, with the title of a book in place of its bytes: a constant cannot hold those of a book that is changed.
 #[derive(Clone, Copy)]
 enum Ask {
     Verdict,

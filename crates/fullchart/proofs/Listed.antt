@@ -1,8 +1,8 @@
--- The silent stations of a full chart, one more at a time.
-use Rattle.std.proofs.Common.{◌≡◌, ℕ, ◌+◌, Bool, true, false, cond, List, [], ◌∷◌, ◌++◌, filter, sym, ap, ◌∙◌, append_assoc, zero-add, arith}
+-- The silent stations of a full chart, one more at a time, and a list, item after item.
+use Rattle.std.proofs.Common.{◌≡◌, ℕ, ◌+◌, Bool, true, false, cond, List, [], ◌∷◌, ◌++◌, drop, length, get_or, filter, sym, ap, ◌∙◌, append_assoc, zero-add, arith}
 use Rattle.std.specs.List.{range_with_len}
 use Rattle.std.proofs.lemmas.List.FromFn.{filter_of_map_range_with_len_more}
-use Rattle.std.proofs.lemmas.List.{map-id, append-nil}
+use Rattle.std.proofs.lemmas.List.{map-id, append-nil, length-drop, drop_more}
 use Rattle.arrayvec.specs.ArrayVec.{ArrayVec, array_vec_len}
 use Rattle.bookformat.specs.declared.value.Event.{Event}
 use Rattle.bookformat.specs.Reading.{is_silent}
@@ -28,3 +28,10 @@ silent_same s a es n not_so so_far = record {
       ∙ ap (λ (l : List ℕ). s.items ++ l) (sym (append-nil (filter (is_silent es) (range_with_len 0 n))) ∙ ap (λ (t : Bool). filter (is_silent es) (range_with_len 0 n) ++ cond t (n ∷ []) []) (sym not_so) ∙ sym (counting_more (is_silent es) n));
   count = omega (arith, so_far.count);
 }
+
+-- what is left of a list when the next item has been taken
+pub taken : {X : Type 0} (xs : List X) (i : ℕ) {rest left : List X} {j : ℕ} {x : X} (d : X) → rest ≡ drop i xs → rest ≡ x ∷ left → j ≡ i + 1 → (left ≡ drop j xs) × (x ≡ get_or xs i d)
+taken xs i {rest} {left} {j} {x} d here first on =
+    let whole : x ∷ left ≡ get_or xs i d ∷ drop (i + 1) xs = sym first ∙ here ∙ drop_more xs i d (omega (arith, length-drop i xs, ap length (sym first ∙ here))) in
+    let further : left ≡ drop (i + 1) xs = cc in
+    (further ∙ ap (λ k. drop k xs) (sym on), cc)

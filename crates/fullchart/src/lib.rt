@@ -3,7 +3,7 @@
 
 ghost use Rattle.arrayvec.specs.ArrayVec.{array_vec_len};
 ghost use Rattle.std.specs.Prelude.{◌≡◌, ◌<◌, ◌≤◌, length, nat_lt};
-ghost use Rattle.bookformat.specs.Values.{chart_value};
+ghost use Rattle.bookformat.specs.Values.{BookValue, chart_value};
 ghost use Rattle.bookformat.specs.Books.{book_value};
 ghost use Rattle.bookformat.specs.Rules.{chart};
 ghost use Rattle.paths.specs.Datings.{drift_of};
@@ -59,17 +59,25 @@ fn add_silent(stations: &mut ArrayVec<u8, 48>, events: &[Event], count: u8)
 }
 
 impl FullChart {
+    /// The full chart of a chart among so many stations, of whatever book.
+    pub fn among(stations: u8, chart: &Chart) -> FullChart
+        requires { stations ≤ 8 }
+        ensures { (b : BookValue) → b.stations ≡ stations → IsFull b (chart_value chart.now) result }
+    {
+        let events = chart.events.as_slice();
+        let mut listed = working_stations(events);
+        add_silent(&mut listed, events, stations);
+        FullChart {
+            stations: listed,
+            working: events.len(),
+        }
+    }
+
     /// The full chart of a chart of the book.
     pub fn of(book: &Book, chart: &Chart) -> FullChart
         ensures { IsFull (book_value book.now) (chart_value chart.now) result }
     {
-        let events = chart.events.as_slice();
-        let mut stations = working_stations(events);
-        add_silent(&mut stations, events, book.stations);
-        FullChart {
-            stations,
-            working: events.len(),
-        }
+        FullChart::among(book.stations, chart)
     }
 
     /// The full chart of the chart with a number.
@@ -87,14 +95,21 @@ impl FullChart {
         self.stations.as_slice().len()
     }
 
-    /// The drift bound of two of its events: near for two working ones, else far.
+    /// Which of two drift bounds, of whatever book, holds for two of its events: near for two working ones, else far.
+    pub fn nearer(&self, near: u16, far: u16, e: usize, f: usize) -> u16
+        ensures { (b : BookValue) → b.near ≡ near → b.far ≡ far → result ≡ drift_of b (nat_lt e self.now.working) (nat_lt f self.now.working) }
+    {
+        if e < self.working && f < self.working {
+            near
+        } else {
+            far
+        }
+    }
+
+    /// The drift bound of two of its events.
     pub fn drift(&self, book: &Book, e: usize, f: usize) -> u16
         ensures { result ≡ drift_of (book_value book.now) (nat_lt e self.now.working) (nat_lt f self.now.working) }
     {
-        if e < self.working && f < self.working {
-            book.near
-        } else {
-            book.far
-        }
+        self.nearer(book.near, book.far, e, f)
     }
 }

@@ -2,6 +2,7 @@ use crate::phase::State;
 use bookformat::Fault;
 
 /// The state of an examination and, if it runs, how many charts its path has, else 0.
+// (A number that is 0 in the other states: the project fixes this answer.)
 #[derive(Clone, Copy, PartialEq, Eq, Debug)]
 pub struct Verdict {
     pub state: State,
@@ -35,6 +36,7 @@ pub enum Answer {
     Told(Verdict),
     Begun(Result<State, Fault>),
     /// The steps made, and the number of the state.
+    // (Two plain numbers: the project fixes this form.)
     Advanced(Result<(u16, u8), Fault>),
     Shown(Result<Leg, Fault>),
     /// How many dates were written.

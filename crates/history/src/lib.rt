@@ -1,6 +1,6 @@
 //! The calls on an examination, what each of them means, and what every list of them obeys.
 //!
-//! Nothing here computes but the number and the word of a state: the calls themselves stand in the crate above, whose contracts
+//! Nothing here computes but what a state is told as, by number and word: the calls themselves stand in the crate above, whose contracts
 //! these definitions are.
 
 #![tactic(auto)]

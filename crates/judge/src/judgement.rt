@@ -1,5 +1,5 @@
 /// What written dates are.
-// (An enum of its own: both are answers and neither is an error, and `Result<(), usize>` within a `Result` would name neither.)
+// (An enum of its own: kept or broken is the product's answer, a broken position no failure of the call, and `Option<usize>` would not say which of the two `None` is.)
 #[derive(Clone, Copy, PartialEq, Eq, Debug)]
 pub enum Judgement {
     /// They keep every rule.

@@ -3,10 +3,10 @@ ghost use Rattle.bookformat.specs.Books.{book_value};
 ghost use Rattle.judge.specs.Walking.{PathChecked};
 
 use bookformat::{ArrayVec, Book, Fault};
-use routes::next_link;
+use routes::{MOST_LINKS, next_link};
 
 /// The numbers of the links, or the position of the first that does not lead a path on, or is one too many.
-pub fn parse_path(book: &Book, links: &[u16]) -> Result<ArrayVec<u8, 4095>, Fault>
+pub fn parse_path(book: &Book, links: &[u16]) -> Result<ArrayVec<u8, MOST_LINKS>, Fault>
     ensures checked { PathChecked (book_value book.now) links.now result }
     ensures numbers { IfOk result (λ n. n.items ≡ links.now) }
 {

@@ -49,6 +49,7 @@ fn enter_made<R: Register + Drop>(made: Result<R, Unmade>, count: u16) -> u16
     made.map_or(0, |mut register| enter_all(&mut register, count))
 }
 
+// (An exported function for each register, since it has no type parameter.)
 #[unsafe(no_mangle)]
 pub extern "C" fn register_enter_scanned(heap: Global, count: u16) -> u16
     ensures { result ≤ count }

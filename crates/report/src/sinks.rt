@@ -3,6 +3,7 @@ ghost use Rattle.std.specs.Prelude.{◌≡◌, ℕ, ◌+◌, ◌-◌, ◌^◌, �
 ghost use Rattle.report.specs.Written.{Written};
 
 /// Takes text, piece after piece.
+// (No writer of `std::fmt`, and no Display: those may fail at any piece, and do not say when they don't, so the length needed could not be promised.)
 pub trait Sink {
     // How many more bytes it can take.
     ghost room: { Self → ℕ };
@@ -51,6 +52,7 @@ impl Sink for Length {
 }
 
 /// Writes text into the caller's bytes, from a place on.
+// (The place beside the bytes: how far a lent slice is filled, which no type of the library holds.)
 #[derive(Drop)]
 pub struct Space<'a> {
     pub bytes: &'a mut [u8],

@@ -1,14 +1,16 @@
 -- Where the dates of a path's charts stand.
-use Rattle.std.proofs.Common.{◌≡◌, ℕ, zero, suc, ◌+◌, ◌*◌, ◌^◌, ◌<◌, ◌≤◌, List, length, sym, ap, ◌∙◌, subst, add-one, arith}
+use Rattle.std.proofs.Common.{◌≡◌, ℕ, zero, suc, ◌+◌, ◌*◌, ◌^◌, ◌<◌, ◌≤◌, List, length, get_or, sym, ap, ◌∙◌, subst, subst₂, ⊎_elim, add-one, arith}
+use Rattle.std.proofs.lemmas.Bool.{cases_eq}
+use Rattle.bookformat.specs.declared.value.Link.{Link}
 use Rattle.bookformat.specs.Values.{BookValue}
 use Rattle.bookformat.specs.Rules.{chart, GoodBook}
 use Rattle.paths.specs.Charts.{event_count}
-use Rattle.paths.specs.Paths.{chart_number, chart_at}
+use Rattle.paths.specs.Paths.{link, Leaves, Path, chart_number, chart_at}
 use Rattle.paths.specs.Listing.{events_before, events_of}
 use Rattle.paths.proofs.Facts.{chart_facts}
 use Rattle.paths.proofs.Listed.{before_rises}
 use Rattle.routes.specs.declared.stop.Stop.{Stop}
-use Rattle.routes.specs.Stops.{At}
+use Rattle.routes.specs.Stops.{At, StandsAt}
 
 pub before_most : (b : BookValue) → GoodBook b → (path : List ℕ) (k : ℕ) → events_before b path k ≤ 48 * k
 before_most b good path zero = omega arith
@@ -31,3 +33,17 @@ module _ (b : BookValue) (path : List ℕ) (k : ℕ) (s : Stop) (at : At b path 
   -- and lie within those of the path
   pub inside : k ≤ length path → s.first + length s.full.stations.items ≤ events_of b path
   inside h = omega (arith, end_is, before_rises b path (suc k) (suc (length path)) (omega arith))
+
+-- one link more of a path
+pub stands_more : (b : BookValue) (path : List ℕ) (k at n : ℕ) (l : Link) → StandsAt b path k at → n ≡ get_or path k 0 → Leaves b at n → l ≡ link b n → StandsAt b path (k + 1) l.to
+stands_more b path k at n l s is leaves e = record {
+  chart = ap (λ (x : Link). x.to) (e ∙ ap (link b) is) ∙ ap (chart_number b path) (sym (add-one k));
+  goes_on = λ j h. ⊎_elim
+      (λ same. subst (λ i. Leaves b (chart_number b path i) (get_or path i 0)) (sym same) (subst₂ (Leaves b) s.chart is leaves))
+      (λ other. s.goes_on j (omega arith))
+      (cases_eq j k);
+}
+
+-- where all links lead on they are a path
+pub stands_whole : (b : BookValue) (path : List ℕ) (k at : ℕ) → StandsAt b path k at → length path ≤ k → Path b path
+stands_whole b path k at s h = record { exists = λ j lt. (s.goes_on j (omega arith)).0; begins = λ j lt. (s.goes_on j (omega arith)).1 }

@@ -4,5 +4,5 @@
 mod path;
 mod stop;
 
-pub use path::{BookPath, is_path, next_link};
+pub use path::{BookPath, MOST_LINKS, is_path, next_link};
 pub use stop::Stop;

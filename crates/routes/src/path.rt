@@ -1,4 +1,5 @@
 ghost use Rattle.std.specs.Prelude.{◌≡◌, ◌↔◌, ◌≤◌, length, IsTrue, IsSome, IfSome};
+ghost use Rattle.bookformat.specs.Values.{BookValue};
 ghost use Rattle.bookformat.specs.Books.{book_value};
 ghost use Rattle.paths.specs.Paths.{link, Leaves, Path};
 
@@ -7,7 +8,7 @@ use bookformat::{Book, Link};
 use fullchart::FullChart;
 
 /// How many links a path may have.
-const MOST_LINKS: usize = 4095;
+pub const MOST_LINKS: usize = 4095;
 
 /// A path through a book: each of its links leaves the chart where the path stands.
 #[derive(Clone, Copy)]
@@ -18,13 +19,14 @@ pub struct BookPath<'a> {
     pub ghost few: { length links.now ≤ 4095 },
 }
 
-/// Are the links a path: does each exist, and begin at the chart where the path stands?
-pub fn is_path(book: &Book, links: &[u8]) -> bool
-    ensures { IsTrue result ↔ Path (book_value book.now) links.now }
+/// Are the links a path, in whatever book has this first chart and all these links: does each exist, and begin at the
+/// chart where the path stands?
+pub fn is_path(first: u8, all: &[Link], links: &[u8]) -> bool
+    ensures { (b : BookValue) → b.first ≡ first → b.links ≡ all.now → (IsTrue result ↔ Path b links.now) }
 {
-    let mut at = book.first;
+    let mut at = first;
     for link in links {
-        match next_link(book, at, usize::from(*link)) {
+        match leaving(all, at, usize::from(*link)) {
             Some(link) => at = link.to,
             None => return false,
         }
@@ -32,12 +34,20 @@ pub fn is_path(book: &Book, links: &[u8]) -> bool
     true
 }
 
+/// The link with a number among all those of a book, if there is one and it begins at chart `at`.
+fn leaving(all: &[Link], at: u8, number: usize) -> Option<&Link>
+    ensures leaves { (b : BookValue) → b.links ≡ all.now → (IsSome result ↔ Leaves b at number) }
+    ensures link { (b : BookValue) → b.links ≡ all.now → IfSome result (λ l. l.now ≡ link b number) }
+{
+    all.get(number).filter(|link| link.from == at)
+}
+
 /// The link with a number, if there is one and it begins at chart `at`.
 pub fn next_link(book: &Book, at: u8, number: usize) -> Option<&Link>
     ensures leaves { IsSome result ↔ Leaves (book_value book.now) at number }
     ensures link { IfSome result (λ l. l.now ≡ link (book_value book.now) number) }
 {
-    book.links.get(number).filter(|link| link.from == at)
+    leaving(&book.links, at, number)
 }
 
 impl<'a> BookPath<'a> {
@@ -53,7 +63,7 @@ impl<'a> BookPath<'a> {
         ensures book { IfSome result (λ p. p.book.now ≡ book.now) }
         ensures links { IfSome result (λ p. p.links.now ≡ links.now) }
     {
-        if links.len() <= MOST_LINKS && is_path(book, links) {
+        if links.len() <= MOST_LINKS && is_path(book.first, &book.links, links) {
             Some(BookPath::new(book, links))
         } else {
             None
@@ -123,7 +133,7 @@ impl<'a> BookPath<'a> {
     pub fn first_stop(&self) -> Stop
         ensures { At (book_value self.now.book.now) self.now.links.now 0 result }
     {
-        self.stop_from(0, 0)
+        Stop::first(self.book)
     }
 
     /// The stop after that of a position.
@@ -149,7 +159,7 @@ impl<'a> BookPath<'a> {
         ensures { At (book_value self.now.book.now) self.now.links.now (length self.now.links.now) result }
     {
         let mut here = self.first_stop();
-        // (By positions: each stop is made from the one before it.)
+        // (By positions: each stop is made from the one before it; with `fold` the proof was tried once and not found.)
         for position in 0..self.links.len() {
             here = self.stop_after(position, &here);
         }

@@ -1,7 +1,8 @@
+use bookformat::Book;
 use fullchart::FullChart;
 
 /// A chart on a path: its number, its full chart, and the place of its first date among those of the path.
-#[derive(Drop)]
+#[derive(Clone, Drop)]
 pub struct Stop {
     pub number: usize,
     pub full: FullChart,
@@ -9,8 +10,23 @@ pub struct Stop {
 }
 
 impl Stop {
+    ghost use Rattle.std.specs.Prelude.{ℕ, List};
+    ghost use Rattle.bookformat.specs.Books.{book_value};
+
+    /// The first stop, which every list of links has, however long and whether it is a path or not.
+    pub fn first(book: &Book) -> Stop
+        ensures { (links : List ℕ) → At (book_value book.now) links 0 result }
+    {
+        let number = usize::from(book.first);
+        Stop {
+            number,
+            full: FullChart::numbered(book, number),
+            first: 0,
+        }
+    }
+
     ghost use Rattle.std.specs.Prelude.{◌≡◌, ◌+◌, ◌^◌, ◌<◌, ◌≤◌, length};
-    ghost use Rattle.routes.specs.Stops.{dates_of};
+    ghost use Rattle.routes.specs.Stops.{At, dates_of};
 
     /// The place behind its last date.
     pub fn end(&self) -> usize

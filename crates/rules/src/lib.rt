@@ -2,9 +2,10 @@
 #![tactic(auto)]
 
 ghost use Rattle.std.specs.Prelude.{◌≡◌, ℕ, ◌<◌, ◌≤◌, length, Decides};
+ghost use Rattle.bookformat.specs.Values.{BookValue, ChartValue};
 ghost use Rattle.bookformat.specs.Books.{book_value};
 ghost use Rattle.bookformat.specs.Rules.{chart};
-ghost use Rattle.paths.specs.Datings.{Within, interval, KeepsChart, KeepsLink};
+ghost use Rattle.paths.specs.Datings.{Within, KeepsChart, KeepsLink};
 ghost use Rattle.fullchart.specs.Finds.{IsFull};
 ghost use Rattle.rules.specs.Checks.{HoldBelow, FirstBroken, NamesDated, AllBelow, AllPairs, InOrder, InDrift};
 ghost use Rattle.rules.specs.Checks.{Covered, Passes, StationKept, date};
@@ -32,7 +33,7 @@ pub fn first_broken(constraints: &[Constraint], dates: &[u32]) -> Option<usize>
     requires { (k : ℕ) → k < length constraints.now → NamesDated constraints.now dates.now k }
     ensures { FirstBroken constraints.now dates.now result }
 {
-    // (A `for` that returns what it finds first: a form that the project fixes for its searches.)
+    // (A `for` that returns what it finds first: that the judge goes over the constraints with `for` is a form that the project fixes.)
     for (k, c) in constraints.iter().enumerate() {
         let first = dates[usize::from(c.first)];
         let second = dates[usize::from(c.second)];
@@ -100,11 +101,9 @@ fn keeps_drift(book: &Book, dated: &DatedChart) -> bool
 }
 
 /// Does a link's interval hold between the station's last event before the link and its first after it?
-fn keeps_station(link: &Link, station: u8, before: &DatedChart, after: &DatedChart) -> bool
-    requires { station < 8 }
-    ensures { Decides result (StationKept (interval link.now station) station before.now.full.now.stations.items before.now.dates.now after.now.full.now.stations.items after.now.dates.now) }
+fn keeps_station(interval: Interval, station: u8, before: &DatedChart, after: &DatedChart) -> bool
+    ensures { Decides result (StationKept interval station before.now.full.now.stations.items before.now.dates.now after.now.full.now.stations.items after.now.dates.now) }
 {
-    let interval = link.intervals[usize::from(station)];
     let last = last_on(&before.full.stations, station);
     let first = first_on(&after.full.stations, station);
     match (last, first) {
@@ -119,9 +118,17 @@ pub fn keeps_link(book: &Book, link: &Link, before: &DatedChart, after: &DatedCh
     requires entered { IsFull (book_value book.now) (chart (book_value book.now) link.now.to) after.now.full.now }
     ensures { Decides result (KeepsLink (book_value book.now) link.now (chart (book_value book.now) link.now.from) (chart (book_value book.now) link.now.to) (date before.now.dates.now) (date after.now.dates.now)) }
 {
-    // (A `for`: with `all` over the stations, or a zip with the intervals, the proof was tried and not found.)
-    for station in 0..book.stations {
-        if !keeps_station(link, station, before, after) {
+    keeps_intervals(book.stations, link, before, after)
+}
+
+/// Does each interval of the link hold for so many stations, in whatever book has so many, between two charts of it?
+pub fn keeps_intervals(stations: u8, link: &Link, before: &DatedChart, after: &DatedChart) -> bool
+    requires { stations ≤ 8 }
+    ensures { (b : BookValue) (c d : ChartValue) → b.stations ≡ stations → IsFull b c before.now.full.now → IsFull b d after.now.full.now → Decides result (KeepsLink b link.now c d (date before.now.dates.now) (date after.now.dates.now)) }
+{
+    // (A `for`: with `all` over the stations the proof was tried and not found.)
+    for (station, interval) in (0..stations).zip(&link.intervals) {
+        if !keeps_station(*interval, station, before, after) {
             return false;
         }
     }

@@ -1,8 +1,7 @@
 -- The parts of bounds, one bound or interval more at a time.
-use Rattle.std.proofs.Common.{◌≡◌, ℕ, ◌+◌, true, ltb, List, ◌∷◌, drop, length, get_or, pos, Some, sym, ap, ◌∙◌, subst₂, arith}
+use Rattle.std.proofs.Common.{◌≡◌, ℕ, ◌+◌, true, ltb, List, pos, Some, sym, ap, ◌∙◌, subst₂, arith}
 use native.Mathlib.Decide.{dec_lt}
 use Rattle.std.proofs.lemmas.Int.{ints}
-use Rattle.std.proofs.lemmas.List.{length-drop, drop_more}
 use Rattle.bookformat.specs.declared.value.Event.{Event}
 use Rattle.bookformat.specs.declared.value.Interval.{Interval}
 use Rattle.bookformat.specs.Values.{BookValue}
@@ -34,10 +33,3 @@ crossing_entered {i} events stations {p} {f} found ex ey one =
       λ h g other. subst₂ (λ a b. Within i (z a) (z b)) ex (ey ∙ ap (λ k. stations + k) (same_first events p f g found other)) h,
       λ h. subst₂ (λ a b. Within i (z a) (z b)) (sym ex) (sym ey) (h f found),
     ))
-
--- what is left of a list when the next item has been taken
-pub taken : {X : Type 0} (xs : List X) (i : ℕ) {rest left : List X} {j : ℕ} {x : X} (d : X) → rest ≡ drop i xs → rest ≡ x ∷ left → j ≡ i + 1 → (left ≡ drop j xs) × (x ≡ get_or xs i d)
-taken xs i {rest} {left} {j} {x} d here first on =
-    let whole : x ∷ left ≡ get_or xs i d ∷ drop (i + 1) xs = sym first ∙ here ∙ drop_more xs i d (omega (arith, length-drop i xs, ap length (sym first ∙ here))) in
-    let further : left ≡ drop (i + 1) xs = cc in
-    (further ∙ ap (λ k. drop k xs) (sym on), cc)

@@ -1,5 +1,5 @@
 -- Bounds that are added one by one.
-use Rattle.std.proofs.Common.{◌≡◌, ℕ, ◌+◌, ◌*◌, ◌/◌, ◌%◌, ◌<◌, Bool, true, false, cond, eqb, ◌↔◌, List, length, set, ℤ, pos, neg_ℤ, ◌+ℤ◌, ◌≤ℤ◌, Some, None, Option, sym, refl, ap, ◌∙◌, subst, ap₂, subst₂, arith, length-set, w32, SFits, to_z, of_z, below_more, MatchOption}
+use Rattle.std.proofs.Common.{◌≡◌, ℕ, ◌+◌, ◌*◌, ◌/◌, ◌%◌, ◌<◌, Bool, true, false, cond, eqb, ◌↔◌, List, length, set, ℤ, pos, neg_ℤ, ◌+ℤ◌, ◌≤ℤ◌, Some, None, Option, sym, refl, ap, ◌∙◌, subst, ap₂, subst₂, arith, length-set, w32, SFits, to_z, of_z, below_more, Ok, Err, Result}
 use mathlib.Core.Logic.{∥∥₁_elim}
 use mathlib.Core.HLevel.{⊥_prop}
 use native.Mathlib.Decide.{ℕ_discrete}
@@ -9,8 +9,9 @@ use Rattle.std.proofs.lemmas.Nat.{div-mul-add, mod-mul-add}
 use Rattle.std.proofs.lemmas.Bool.{eq-eqb, ne_eqb}
 use Rattle.bookformat.specs.declared.value.Interval.{Interval}
 use Rattle.closure.specs.declared.kinds.Ticks.{Ticks}
+use Rattle.closure.specs.declared.kinds.TooFar.{TooFar}
 use Rattle.closure.specs.Closings.{weight_at, Sized, Filled}
-use Rattle.closure.specs.Tickings.{fewer, ticks_reach, ticks_value, ticks_meaning, WithinTicks}
+use Rattle.closure.specs.Tickings.{fewer, ticks_reach, ticks_value, ticks_meaning, WithinTicks, MakesTicks}
 use Rattle.closure.proofs.Entries.{place_below, same_row, same_column, write_same, write_other}
 use Rattle.paths.specs.Datings.{Within}
 use Rattle.paths.specs.Bounds.{Keeps}
@@ -60,9 +61,9 @@ abbrev KeepsTable : ℕ → List Ticks → (ℕ → ℕ) → Type 0
 KeepsTable n l z = Keeps (Entry n (table_of n l)) z
 
 -- the number that was made into ticks, to its bits and back
-pub made : {o : Option Ticks} {w : ℤ} {t : Ticks} → SFits w32 w → o ≡ Some t → MatchOption o (WithinTicks 10000 (to_z w32 (of_z w32 w)) → ⊥) (λ u. WithinTicks 10000 (to_z w32 (of_z w32 w)) × (ticks_value u ≡ Some (to_z w32 (of_z w32 w)))) → ticks_value t ≡ Some w
-made {o = Some u} {w} {t} fits e h = let s : t ≡ u = cc in ap ticks_value s ∙ h.1 ∙ ap Some (to_z-of_z w32 w fits)
-made {o = None} {w} {t} fits e h = let z : ◌≡◌ {A = ℕ} 0 1 = cc in absurd (omega arith)
+pub made : {r : Result Ticks TooFar} {w : ℤ} {t : Ticks} → SFits w32 w → r ≡ Ok t → MakesTicks (to_z w32 (of_z w32 w)) r → ticks_value t ≡ Some w
+made {r = Ok u} {w} {t} fits e h = let s : t ≡ u = cc in ap ticks_value s ∙ h.1 ∙ ap Some (to_z-of_z w32 w fits)
+made {r = Err f} {w} {t} fits e h = let z : ◌≡◌ {A = ℕ} 0 1 = cc in absurd (omega arith)
 
 module _ (s : Bounds) (i j : ℕ) (w : ℤ) (t : Ticks) {a : Option ℤ} (inside : (i < places s) × (j < places s)) (is : ticks_value t ≡ Some w) (here : a ≡ table s i j) where
   -- the entry stays

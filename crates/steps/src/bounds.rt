@@ -50,7 +50,7 @@ impl<'a> Bounds<'a> {
         requires small { WithinTicks 10000 count }
         ensures { Adds self.old self.new (AtMost from to count) }
     {
-        let ticks = Ticks::of(count).unwrap();
+        let ticks = Ticks::try_from(count).unwrap();
         if ticks.is_better(self.table.at(from, to)) {
             self.table.set(from, to, ticks);
         }

@@ -5,11 +5,11 @@ ghost use Rattle.bookformat.specs.Books.{book_value};
 ghost use Rattle.fullchart.specs.Finds.{IsFull};
 ghost use Rattle.paths.specs.Charts.{event_count};
 ghost use Rattle.paths.specs.Datings.{KeepsChart};
-ghost use Rattle.profile.specs.Ranges.{InRange};
 ghost use Rattle.steps.specs.Answers.{ChartAnswer, StepAnswer};
 ghost use Rattle.steps.specs.Parts.{entries_of};
 
 use crate::bounds::{Bounds, MOST_ENTRIES};
+use crate::given::GivenProfile;
 use crate::profiles::closed_profile;
 use bookformat::Book;
 use closure::Ticks;
@@ -53,12 +53,11 @@ pub fn chart_profile(
 pub fn entered_profile(
     storage: &mut [Ticks; MOST_ENTRIES],
     book: &Book,
-    from: &[i16; 64],
+    from: &GivenProfile,
     link: usize,
 ) -> Option<[i16; 64]>
-    requires range { InRange from.now }
     requires exists { link < length (book_value book.now).links }
-    ensures { StepAnswer (book_value book.now) (link_numbered (book_value book.now) link) (entries_of from.now) result }
+    ensures { StepAnswer (book_value book.now) (link_numbered (book_value book.now) link) (entries_of from.now.entries.now) result }
 {
     let link = book.link(link);
     let chart = usize::from(link.to);

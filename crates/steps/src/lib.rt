@@ -17,11 +17,13 @@ use closure::Ticks;
 
 mod bounds;
 mod fills;
+mod given;
 mod parts;
 mod profiles;
 
 use bounds::MOST_ENTRIES;
 use fills::{chart_profile, entered_profile};
+use given::GivenProfile;
 
 /// The profile of the book's first chart alone, or none where it has no dating.
 pub fn first_profile(book: &Book) -> Option<[i16; 64]>
@@ -39,5 +41,6 @@ pub fn step_profile(book: &Book, from: &[i16; 64], link: usize) -> Option<[i16; 
     ensures { StepAnswer (book_value book.now) (link_numbered (book_value book.now) link) (entries_of from.now) result }
 {
     let mut storage = [Ticks::NONE; MOST_ENTRIES];
-    entered_profile(&mut storage, book, from, link)
+    let from = GivenProfile { entries: from };
+    entered_profile(&mut storage, book, &from, link)
 }

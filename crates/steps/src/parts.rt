@@ -3,10 +3,10 @@ ghost use Rattle.std.specs.Prelude.{◌≡◌, ℕ, ◌+◌, ◌<◌, ◌≤◌,
 ghost use Rattle.bookformat.specs.Rules.{Proper, unbounded};
 ghost use Rattle.bookformat.specs.Books.{book_value};
 ghost use Rattle.paths.specs.Datings.{drift_of};
-ghost use Rattle.profile.specs.Ranges.{InRange};
 ghost use Rattle.steps.specs.Parts.{BeforeKept, OrderKeptFrom, OrderKept, ConstraintsKept, Enterable, DriftKept, DriftsKeptFrom, DriftsKept, entries_of, ProfileKeptFrom, ProfileKept, CrossingKept, CrossingsKept};
 
 use crate::bounds::Bounds;
+use crate::given::GivenProfile;
 use bookformat::{Book, Constraint, Event, Interval};
 use chartorder::is_directly_before;
 use fullchart::{FullChart, first_on};
@@ -29,7 +29,7 @@ impl<'a> Bounds<'a> {
         requires inside { (e < length events.now) × (first + length events.now ≤ places self.old) }
         ensures { Adds self.old self.new (OrderKeptFrom events.now first e) }
     {
-        // (By the numbers of events, which are the rows and columns of the table that is written.)
+        // (By the numbers of events, here and in add_order: the bounds are written at every turn, and is_directly_before goes by numbers.)
         for f in 0..events.len() {
             self.add_before(first, events, e, f);
         }
@@ -40,7 +40,6 @@ impl<'a> Bounds<'a> {
         requires inside { first + length events.now ≤ places self.old }
         ensures { Adds self.old self.new (OrderKept events.now first) }
     {
-        // (By the numbers of events, which are the rows and columns of the table that is written.)
         for e in 0..events.len() {
             self.add_order_from(first, events, e);
         }
@@ -72,7 +71,7 @@ impl<'a> Bounds<'a> {
         requires inside { (e < length full.now.stations.items) × (first + length full.now.stations.items ≤ places self.old) }
         ensures { Adds self.old self.new (DriftsKeptFrom (book_value book.now) full.now.working (length full.now.stations.items) first e) }
     {
-        // (By the numbers of events, which are the rows and columns of the table that is written.)
+        // (By the numbers of events, here and in add_drifts: the bounds are written at every turn, and drift goes by numbers.)
         for f in 0..full.count() {
             self.add_drift(first, book, full, e, f);
         }
@@ -83,40 +82,35 @@ impl<'a> Bounds<'a> {
         requires inside { first + length full.now.stations.items ≤ places self.old }
         ensures { Adds self.old self.new (DriftsKept (book_value book.now) full.now.working (length full.now.stations.items) first) }
     {
-        // (By the numbers of events, which are the rows and columns of the table that is written.)
         for e in 0..full.count() {
             self.add_drifts_from(first, book, full, e);
         }
     }
 
     // One entry of the profile of the stations' last events, which stand at the first places.
-    fn add_profile_entry(&mut self, profile: &[i16; 64], p: usize, q: usize)
+    fn add_profile_entry(&mut self, profile: &GivenProfile, p: usize, q: usize)
         requires inside { (p < 8) × (q < 8) × (p < places self.old) × (q < places self.old) }
-        requires range { InRange profile.now }
-        ensures { Adds self.old self.new (AtMost q p (entries_of profile.now p q)) }
+        ensures { Adds self.old self.new (AtMost q p (entries_of profile.now.entries.now p q)) }
     {
-        self.tighten(q, p, i32::from(profile[8 * p + q]));
+        self.tighten(q, p, profile.entry(p, q));
     }
 
     // The entries of one station with each other.
-    fn add_profile_from(&mut self, stations: usize, profile: &[i16; 64], p: usize)
+    fn add_profile_from(&mut self, stations: usize, profile: &GivenProfile, p: usize)
         requires inside { (p < stations) × (stations ≤ 8) × (stations ≤ places self.old) }
-        requires range { InRange profile.now }
-        ensures { Adds self.old self.new (ProfileKeptFrom (entries_of profile.now) stations p) }
+        ensures { Adds self.old self.new (ProfileKeptFrom (entries_of profile.now.entries.now) stations p) }
     {
-        // (By the numbers of stations, which are the rows and columns of the table that is written.)
+        // (By the numbers of stations, here and in add_profile: the bounds are written at every turn, and entry goes by numbers.)
         for q in 0..stations {
             self.add_profile_entry(profile, p, q);
         }
     }
 
     // The whole profile.
-    pub fn add_profile(&mut self, stations: usize, profile: &[i16; 64])
+    pub fn add_profile(&mut self, stations: usize, profile: &GivenProfile)
         requires inside { (stations ≤ 8) × (stations ≤ places self.old) }
-        requires range { InRange profile.now }
-        ensures { Adds self.old self.new (ProfileKept (entries_of profile.now) stations) }
+        ensures { Adds self.old self.new (ProfileKept (entries_of profile.now.entries.now) stations) }
     {
-        // (By the numbers of stations, which are the rows and columns of the table that is written.)
         for p in 0..stations {
             self.add_profile_from(stations, profile, p);
         }

@@ -36,6 +36,7 @@ fn read_profile(table: &Table<Ticks>, first: usize, events: &[u8]) -> [i16; 64]
     ensures { ProfileRead (table_of table.now.places table.now.weights.now) first events.now result }
 {
     let mut profile = [0; 64];
+    // (The index taken apart: tried by rows of `as_chunks_mut`, but no proof knows what an array holds after it.)
     for (k, entry) in profile.iter_mut().enumerate() {
         *entry = profile_entry(table, first, events, (k / 8) as u8, (k % 8) as u8);
     }

@@ -1,8 +1,9 @@
 use bookformat::{Interval, Kind};
-use chartbook::{RecordKind, Watch};
+use chartbook::{RecordBytes, Watch};
 use std::io;
 
 /// Prints a line for each record, until printing fails.
+// (The trace of a walk is another: it watches another trait, and shares two fields and a test with this one.)
 #[derive(Drop)]
 pub struct Trace<'a> {
     rt: &'a HostRuntime,
@@ -24,9 +25,9 @@ impl<'a> Trace<'a> {
 }
 
 impl Watch for Trace<'_> {
-    fn record(&mut self, kind: RecordKind, number: usize, place: usize, bytes: &[u8]) {
+    fn record(&mut self, record: RecordBytes<'_>, number: usize, place: usize) {
         if self.printed.is_ok() {
-            self.printed = print_record(self.rt, kind, number, place, bytes);
+            self.printed = print_record(self.rt, record, number, place);
         }
     }
 
@@ -39,33 +40,30 @@ impl Watch for Trace<'_> {
 
 fn print_record(
     rt: &HostRuntime,
-    kind: RecordKind,
+    record: RecordBytes<'_>,
     number: usize,
     place: usize,
-    bytes: &[u8],
 ) -> io::Result<()> {
-    match kind {
-        RecordKind::Mark => print_mark(rt, place, bytes),
-        RecordKind::Header => print_header(rt, place, bytes),
-        RecordKind::ChartHead => print_chart(rt, number, place, bytes),
-        RecordKind::Event => print_event(rt, number, place, bytes),
-        RecordKind::Constraint => print_constraint(rt, number, place, bytes),
-        RecordKind::Link => print_link(rt, number, place, bytes),
+    match record {
+        RecordBytes::Mark(bytes) => print_mark(rt, place, bytes),
+        RecordBytes::Header(bytes) => print_header(rt, place, bytes),
+        RecordBytes::ChartHead(bytes) => print_chart(rt, number, place, bytes),
+        RecordBytes::Event(bytes) => print_event(rt, number, place, bytes),
+        RecordBytes::Constraint(bytes) => print_constraint(rt, number, place, bytes),
+        RecordBytes::Link(bytes) => print_link(rt, number, place, bytes),
     }
 }
 
-fn print_mark(rt: &HostRuntime, place: usize, bytes: &[u8]) -> io::Result<()> {
-    let [a, b, c, high, low] = bytes else {
-        return Ok(());
-    };
-    let version = u16::from_be_bytes([*high, *low]);
-    match bytes {
+fn print_mark(rt: &HostRuntime, place: usize, bytes: &[u8; 5]) -> io::Result<()> {
+    let [a, b, c, high, low] = *bytes;
+    let version = u16::from_be_bytes([high, low]);
+    match *bytes {
         [b'T', b'C', b'M', ..] => println!(rt; "{place} mark TCM version {version}"),
         _ => println!(rt; "{place} mark {a:02X}h {b:02X}h {c:02X}h version {version}"),
     }
 }
 
-fn print_header(rt: &HostRuntime, place: usize, bytes: &[u8]) -> io::Result<()> {
+fn print_header(rt: &HostRuntime, place: usize, bytes: &[u8; 8]) -> io::Result<()> {
     let [
         stations,
         charts,
@@ -75,31 +73,24 @@ fn print_header(rt: &HostRuntime, place: usize, bytes: &[u8]) -> io::Result<()> 
         near_low,
         far_high,
         far_low,
-    ] = bytes
-    else {
-        return Ok(());
-    };
-    let near = u16::from_be_bytes([*near_high, *near_low]);
-    let far = u16::from_be_bytes([*far_high, *far_low]);
+    ] = *bytes;
+    let near = u16::from_be_bytes([near_high, near_low]);
+    let far = u16::from_be_bytes([far_high, far_low]);
     println!(rt;
         "{place} header stations {stations} charts {charts} first {first} links {links} near {near} far {far}"
     )
 }
 
-fn print_chart(rt: &HostRuntime, number: usize, place: usize, bytes: &[u8]) -> io::Result<()> {
-    let [events, constraints, final_mark] = bytes else {
-        return Ok(());
-    };
+fn print_chart(rt: &HostRuntime, number: usize, place: usize, bytes: &[u8; 3]) -> io::Result<()> {
+    let [events, constraints, final_mark] = *bytes;
     println!(rt;
         "{place} chart {number} events {events} constraints {constraints} final {final_mark}"
     )
 }
 
-fn print_event(rt: &HostRuntime, number: usize, place: usize, bytes: &[u8]) -> io::Result<()> {
-    let [station, kind, pair] = bytes else {
-        return Ok(());
-    };
-    match Kind::try_from(*kind) {
+fn print_event(rt: &HostRuntime, number: usize, place: usize, bytes: &[u8; 3]) -> io::Result<()> {
+    let [station, kind, pair] = *bytes;
+    match Kind::try_from(kind) {
         Ok(Kind::Send) => println!(rt;
             "{place} event {number} station {station} sends to event {pair}"
         ),
@@ -129,24 +120,24 @@ fn print_interval(rt: &HostRuntime, interval: Interval) -> io::Result<()> {
     }
 }
 
-fn print_constraint(rt: &HostRuntime, number: usize, place: usize, bytes: &[u8]) -> io::Result<()> {
-    let [first, second, a, b, c, d] = bytes else {
-        return Ok(());
-    };
+fn print_constraint(
+    rt: &HostRuntime,
+    number: usize,
+    place: usize,
+    bytes: &[u8; 6],
+) -> io::Result<()> {
+    let [first, second, a, b, c, d] = *bytes;
     print!(rt; "{place} constraint {number} from event {first} to event {second} in")?;
-    print_interval(rt, Interval::from([*a, *b, *c, *d]))?;
+    print_interval(rt, Interval::from([a, b, c, d]))?;
     println!(rt; "")
 }
 
-fn print_link(rt: &HostRuntime, number: usize, place: usize, bytes: &[u8]) -> io::Result<()> {
-    let [from, to, rest @ ..] = bytes else {
-        return Ok(());
-    };
+fn print_link(rt: &HostRuntime, number: usize, place: usize, bytes: &[u8; 34]) -> io::Result<()> {
+    let [from, to, ..] = *bytes;
     print!(rt; "{place} link {number} from chart {from} to chart {to} in")?;
-    for interval in rest.chunks_exact(4) {
-        if let [a, b, c, d] = interval {
-            print_interval(rt, Interval::from([*a, *b, *c, *d]))?;
-        }
+    let (intervals, _) = bytes[2..].as_chunks();
+    for interval in intervals {
+        print_interval(rt, Interval::from(*interval))?;
     }
     println!(rt; "")
 }

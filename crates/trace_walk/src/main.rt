@@ -28,7 +28,8 @@ fn print_walk(rt: &HostRuntime, bytes: &[u8]) -> anyhow::Result<()> {
 
 fn main(rt: HostRuntime) -> anyhow::Result<()> {
     let mut bytes = Vec::new(rt.alloc());
-    // One byte more than the longest book has shows that there are too many.
+    // One byte more than the longest book has shows that there are too many. (Each program reads for itself:
+    // of what standard input gives no contract can speak, so a function shared by them would promise nothing.)
     rt.stdin().take(LONGEST as u64 + 1).read_to_end(&mut bytes)?;
     print_walk(&rt, bytes.as_slice())
 }

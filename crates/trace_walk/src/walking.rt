@@ -6,6 +6,7 @@ use std::io;
 use walk::{Outcome, Watch};
 
 /// Prints a line for each step of a walk, until printing fails.
+// (The trace of a reader is another: it watches another trait, and shares two fields and a test with this one.)
 #[derive(Drop)]
 pub struct StepTrace<'a> {
     rt: &'a HostRuntime,

@@ -1,9 +1,8 @@
 -- The classes that profiles tell of: of the first chart alone, and after a link.
-use Rattle.std.proofs.Common.{◌≡◌, ℕ, ◌<◌, List, length, get_or, ℤ, Some, None, Option, sym, subst, subst₂, ap₂, ◌+◌, ◌*◌, arith}
-use Rattle.bookformat.specs.declared.value.Link.{Link}
+use Rattle.std.proofs.Common.{◌≡◌, ℕ, ◌<◌, length, ℤ, Some, None, Option, sym, subst, subst₂, ◌+◌, ◌*◌, arith}
 use Rattle.bookformat.specs.Values.{BookValue}
-use Rattle.bookformat.specs.Rules.{no_link, chart, GoodBook}
-use Rattle.paths.specs.Paths.{link}
+use Rattle.bookformat.specs.Rules.{chart, GoodBook}
+use Rattle.paths.specs.Paths.{link, Leaves}
 use Rattle.paths.specs.Datings.{KeepsChart}
 use Rattle.paths.specs.Profiles.{ChartProfile}
 use Rattle.paths.specs.Steps.{Leads}
@@ -15,10 +14,6 @@ use Rattle.steps.specs.Answers.{ChartAnswer, StepAnswer}
 use Rattle.classes.specs.Classes.{entry}
 use Rattle.classes.specs.Ranged.{ranged}
 use Rattle.walk.specs.Trying.{Alike, LedTo, Starts}
-
--- a link that is read from the book's list
-pub link_read : (b : BookValue) (links : List Link) (n l : ℕ) → links ≡ b.links → n ≡ l → get_or links n no_link ≡ link b l
-link_read b links n l e is = ap₂ (λ (x : List Link) k. get_or x k no_link) e is
 
 module _ (b : BookValue) (good : GoodBook b) where
   -- some dating attains the profile of a chart
@@ -61,8 +56,8 @@ module _ (b : BookValue) (good : GoodBook b) where
   pub leads_none : (s : Class) (l : ℕ) → StepAnswer b (link b l) (entry s) None → LedTo b s l None
   leads_none s l h = λ g. h g.1.1.1.goes.solution
 
-  pub leads_elsewhere : (s : Class) (l : ℕ) → ((link b l).from ≡ s.chart → ⊥) → LedTo b s l None
-  leads_elsewhere s l h = λ g. h g.1.1.1.goes.begins
+  pub leads_elsewhere : (s : Class) (l : ℕ) → (Leaves b s.chart l → ⊥) → LedTo b s l None
+  leads_elsewhere s l h = λ g. h (g.1.1.1.goes.exists, g.1.1.1.goes.begins)
 
   pub leads_beyond : (s : Class) (l : ℕ) → (InRange s.profile.entries → ⊥) → LedTo b s l None
   leads_beyond s l h = λ g. h g.1.0

@@ -1,5 +1,5 @@
 -- One step after another.
-use Rattle.std.proofs.Common.{◌≡◌, ℕ, suc, ◌+◌, ◌<◌, Bool, true, false, List, length, sym, refl, ap, subst, add-one, arith}
+use Rattle.std.proofs.Common.{◌≡◌, ℕ, suc, ◌+◌, ◌<◌, Bool, true, false, List, sym, refl, ap, subst, add-one, arith}
 use Rattle.bookformat.specs.Values.{BookValue}
 use Rattle.register.specs.declared.row.Row.{Row}
 use Rattle.search.specs.Rows.{class_at}
@@ -44,9 +44,6 @@ under_more b capacity capacity' rows f n after g p l later z e is u s = record {
   made = moves p l (outcome_of s.outcome) u.made (ap phase_of is) (subst (λ (c : ℕ). search.Tries (ranged b) c (rows_of b after) p l (outcome_of s.outcome) (rows_of b later)) e s.tried) s.follows (add-one n);
   exists = exists_after b later p l s.outcome z s.follows;
 }
-
-pub next_exists : (b : BookValue) (g : Phase) (p l : ℕ) → g ≡ Open p l → NextExists b (phase_of g) → l < length b.links
-next_exists b g p l is h = subst (λ (x : Phase). NextExists b (phase_of x)) is h
 
 -- the walk stops where it is not open, or where the budget is used up
 module _ (b : BookValue) (capacity : ℕ) (rows : List Row) (f : Phase) (budget n : ℕ) (after : List Row) (g : Phase) (u : Under b capacity rows f n after g) where

@@ -4,6 +4,7 @@ ghost use Rattle.walk.specs.Trying.{outcome_by};
 use register::Entered;
 
 /// What a step meets. `Known` and `New` have the place of the row.
+// (No Option of what the register answers: its None would not say that the longer path has no dating.)
 #[derive(Clone, Copy, PartialEq, Eq, Debug)]
 pub enum Outcome {
     /// The longer path has no dating.

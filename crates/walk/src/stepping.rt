@@ -12,9 +12,10 @@ ghost use Rattle.walk.specs.Trying.{outcome_by, LedTo, Starts, Tried, Follows, S
 use crate::outcome::Outcome;
 use crate::pairs::{is_final, next_pair, row_at};
 use crate::watch::Watch;
-use bookformat::{Book, Link};
+use bookformat::Book;
 use history::Phase;
 use register::{Class, Entered, Origin, Profile, Register, Row};
+use routes::next_link;
 use steps::{first_profile, step_profile};
 
 /// The class of a chart and the entries of a profile.
@@ -36,32 +37,21 @@ fn first_class(book: &Book) -> Option<Class>
     Some(class_with(book.first, entries))
 }
 
-/// Does the link begin at a chart?
-fn begins_at(link: &Link, chart: u8) -> bool
-    ensures { Decides result (link.now.from ≡ chart) }
-{
-    link.from == chart
-}
-
 /// Is each entry so near to 0 that a step can be made from it?
 fn is_in_range(entries: &[i16; 64]) -> bool
     ensures { Decides result (InRange entries.now) }
 {
     entries
         .iter()
-        .all(|entry| -10_000 <= *entry && *entry <= 10_000)
+        .all(|entry| (-10_000..=10_000).contains(entry))
 }
 
 /// The class to which a link leads from a class, if a path goes on so.
 fn lead(book: &Book, from: &Class, link: u8) -> Option<Class>
-    requires { link < length (book_value book.now).links }
     ensures { LedTo (book_value book.now) from.now link result }
 {
     let number = usize::from(link);
-    let taken = book.link(number);
-    if !begins_at(taken, from.chart) {
-        return None;
-    }
+    let taken = next_link(book, from.chart, number)?;
     // (Nothing else is known of the entries of a row that the walk did not enter.)
     if !is_in_range(&from.profile.entries) {
         return None;
@@ -72,7 +62,6 @@ fn lead(book: &Book, from: &Class, link: u8) -> Option<Class>
 
 /// Enters what the link leads to from the row at a place.
 fn try_pair<R: Register>(book: &Book, register: &mut R, place: u16, link: u8) -> Outcome
-    requires { link < length (book_value book.now).links }
     ensures tried { Tried (book_value book.now) (R.capacity register.old) (R.rows register.old) place link result (R.rows register.new) }
     ensures capacity { R.capacity register.new ≡ R.capacity register.old }
 {
@@ -132,7 +121,6 @@ pub fn step<R: Register, W: Watch>(
     link: u8,
     watch: &mut W,
 ) -> Phase
-    requires { link < length (book_value book.now).links }
     ensures stepped { Stepped (book_value book.now) (R.capacity register.old) (R.rows register.old) place link (R.rows register.new) result }
     ensures capacity { R.capacity register.new ≡ R.capacity register.old }
 {

@@ -38,12 +38,9 @@ pub enum Title {
     CountdownLonger,
 }
 
-/// The bytes of every title.
+/// The books that are changed: a constant cannot be made of another.
 #[derive(Drop)]
 pub struct Shelf {
-    one_message: [u8; 28],
-    one_message_near_0: [u8; 28],
-    countdown: [u8; 148],
     countdown_near_2: [u8; 148],
     countdown_late: [u8; 148],
     countdown_longer: [u8; 149],
@@ -59,23 +56,21 @@ impl Shelf {
         let mut countdown_longer = [0; 149];
         countdown_longer[..148].copy_from_slice(COUNTDOWN);
         Shelf {
-            one_message: *ONE_MESSAGE,
-            one_message_near_0: *ONE_MESSAGE_NEAR_0,
-            countdown: *COUNTDOWN,
             countdown_near_2,
             countdown_late,
             countdown_longer,
         }
     }
 
+    /// The bytes of a title.
     pub fn book(&self, title: Title) -> &[u8] {
         match title {
-            Title::OneMessage => &self.one_message,
-            Title::OneMessageNear0 => &self.one_message_near_0,
-            Title::Countdown => &self.countdown,
+            Title::OneMessage => ONE_MESSAGE,
+            Title::OneMessageNear0 => ONE_MESSAGE_NEAR_0,
+            Title::Countdown => COUNTDOWN,
             Title::CountdownNear2 => &self.countdown_near_2,
             Title::CountdownLate => &self.countdown_late,
-            Title::CountdownCut => &self.countdown[..147],
+            Title::CountdownCut => &COUNTDOWN[..147],
             Title::CountdownLonger => &self.countdown_longer,
         }
     }

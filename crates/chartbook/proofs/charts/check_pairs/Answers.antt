@@ -1,17 +1,11 @@
-use Rattle.std.proofs.Common.{◌<◌, List, [], length, sym, refl, ap, ◌∙◌, subst}
+use Rattle.std.proofs.Common.{List, subst}
 use Rattle.bookformat.specs.declared.value.Event.{Event}
-use Rattle.bookformat.specs.Reading.{pair_tests, is_paired}
-use Rattle.bookformat.proofs.Faults.{each_fails, each_passes, some_head, none_cons}
+use Rattle.chartbook.specs.Answers.{AllPaired, FirstUnpaired}
+use Rattle.chartbook.proofs.Pairs.{pairs_pass, pairs_fail_at}
 use Rattle.chartbook.proofs.charts.check_pairs.Goals as goal
 
-pub returns-then-not-is_paired : goal.returns-then-not-is_paired
-returns-then-not-is_paired c =
-    let es = c.args.events.now.items in
-    each_fails (pair_tests es c.args.place) _ c.loop-e.e _ (subst (λ (l : List Event). c.loop-e.e < length l) c.deref-items.ensures.0 c.loop-e-test.true) c.loop-e.invariant
-    (some_head (is_paired es c.loop-e.e) _ [] (sym (c.if-not-is_paired.ensures ∙ ap (λ (l : List Event). is_paired l c.loop-e.e) c.deref.ensures.0)))
+pub returns-in-Some : goal.returns-in-Some
+returns-in-Some c = pairs_fail_at c.args.events.now.items c.args.place c.in-Some.e (subst (λ (l : List Event). FirstUnpaired l c.in-Some.e) c.deref.ensures.0 c.in-Some.ensures)
 
-pub loop-e-preserved : goal.loop-e-preserved
-loop-e-preserved c =
-    let es = c.args.events.now.items in
-    each_passes (pair_tests es c.args.place) c.loop-e.e c.loop-e.invariant
-    (none_cons (is_paired es c.loop-e.e) _ [] (sym (c.if-not-is_paired.ensures ∙ ap (λ (l : List Event). is_paired l c.loop-e.e) c.deref.ensures.0)) refl)
+pub returns-in-None : goal.returns-in-None
+returns-in-None c = (pairs_pass c.args.events.now.items c.args.place _ (subst AllPaired c.deref.ensures.0 c.in-None.ensures), record {})

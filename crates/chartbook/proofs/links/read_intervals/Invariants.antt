@@ -4,8 +4,8 @@ use Rattle.bookformat.specs.Rules.{unbounded}
 use Rattle.bookformat.specs.Reading.{first_fault, each, station_tests, is_apart}
 use Rattle.chartbook.proofs.links.read_intervals.Given as goal
 
-abbrev pub invariant-loop-p : goal.invariant-loop-p
-invariant-loop-p l =
-    (first_fault (each (λ p. station_tests (interval_at l.part (2 + 4 * p)) (is_apart l.stations l.before l.after p) l.place) l.p) ≡ None)
-    × ((k : ℕ) → k < l.p → get_or l.intervals k unbounded ≡ interval_at l.part (2 + 4 * k))
-    × (length l.intervals ≡ 8)
+abbrev pub invariant-loop-station : goal.invariant-loop-station
+invariant-loop-station l =
+    (first_fault (each (λ p. station_tests (interval_at l.part (2 + 4 * p)) (is_apart l.stations l.before l.after p) l.place) l.station) ≡ None)
+    × ((k : ℕ) → k < l.station → get_or l.interval-items k unbounded ≡ interval_at l.part (2 + 4 * k))
+    × (length l.interval-items ≡ 8)

@@ -1,6 +1,4 @@
-use Rattle.std.proofs.Common.{ℕ, List, get_or, Option, ap}
-use Rattle.bookformat.specs.Rules.{unbounded}
-use Rattle.paths.specs.Datings.{interval}
+use Rattle.std.proofs.Common.{ℕ, List, Option, refl}
 use Rattle.fullchart.specs.Finds.{FirstOn, LastOn}
 use Rattle.earliest.proofs.Linked.{station_met, found}
 use Rattle.earliest.proofs.links.raise_station.Goals as goal
@@ -10,7 +8,7 @@ returns-in-Some-Some c =
     let left = c.args.left.now in
     let entered = c.args.entered.now in
     let p = c.args.station in
-    station_met (interval c.args.link.now p) _ (ap (λ n. get_or c.args.link.now.intervals n unbounded) c.from.ensures) p left.full.stations.items left.first entered.full.stations.items entered.first c.in-Some-Some.e c.in-Some-Some.f
+    station_met c.args.interval _ refl p left.full.stations.items left.first entered.full.stations.items entered.first c.in-Some-Some.e c.in-Some-Some.f
     (found (λ (l : List ℕ) (o : Option ℕ). LastOn l p o) c.deref.ensures.0 c.in-Some-Some.is-0 c.last_on-last.ensures)
     (found (λ (l : List ℕ) (o : Option ℕ). FirstOn l p o) c.deref-2.ensures.0 c.in-Some-Some.is-1 c.first_on-first.ensures)
     c.raise_interval.ensures

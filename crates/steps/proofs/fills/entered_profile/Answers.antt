@@ -40,7 +40,7 @@ closed_profile-requires-clause-readable c =
     let entered = ap (chart b) c.from-chart.ensures in
     let is : c.as_slice-events.result.now ≡ event_stations b (enters b l) = c.as_slice-events.ensures.value ∙ c.numbered-full.ensures.stations ∙ ap (event_stations b) entered in
     let all : places c.add_chart.new.self ≡ b.stations + event_count b (chart b c.from-chart.result) = omega (arith, c.add_chart.ensures.places, c.add_crossings.ensures.places, c.add_profile.ensures.places, c.none-bounds.ensures.places, c.from-stations.ensures, c.count.ensures, ap length c.numbered-full.ensures.stations) in
-    let decides = step_table b l (entries_of c.args.from.now) is good c.from-stations.ensures entered all c.none-bounds.ensures.blank c.add_profile.ensures c.add_crossings.ensures c.add_chart.ensures in
+    let decides = step_table b l (entries_of c.args.from.now.entries.now) is good c.from-stations.ensures entered all c.none-bounds.ensures.blank c.add_profile.ensures c.add_crossings.ensures c.add_chart.ensures in
     readable b good (enters b l) (chart_facts b good l.to) c.as_slice-events.result.now is _ (λ t. t.1) (places c.add_chart.new.self) c.from-stations.result (table c.add_chart.new.self) decides
 
 pub returns : goal.returns
@@ -51,5 +51,5 @@ returns c =
     let entered = ap (chart b) c.from-chart.ensures in
     let is : c.as_slice-events.result.now ≡ event_stations b (enters b l) = c.as_slice-events.ensures.value ∙ c.numbered-full.ensures.stations ∙ ap (event_stations b) entered in
     let all : places c.add_chart.new.self ≡ b.stations + event_count b (chart b c.from-chart.result) = omega (arith, c.add_chart.ensures.places, c.add_crossings.ensures.places, c.add_profile.ensures.places, c.none-bounds.ensures.places, c.from-stations.ensures, c.count.ensures, ap length c.numbered-full.ensures.stations) in
-    subst (λ (x : Link). StepAnswer b x (entries_of c.args.from.now) c.closed_profile.result) c.link-link.ensures
-    (step_answer b l (entries_of c.args.from.now) is good c.from-stations.ensures entered all c.none-bounds.ensures.blank c.add_profile.ensures c.add_crossings.ensures c.add_chart.ensures (chart_facts b good l.to) c.closed_profile.result c.closed_profile.ensures)
+    subst (λ (x : Link). StepAnswer b x (entries_of c.args.from.now.entries.now) c.closed_profile.result) c.link-link.ensures
+    (step_answer b l (entries_of c.args.from.now.entries.now) is good c.from-stations.ensures entered all c.none-bounds.ensures.blank c.add_profile.ensures c.add_crossings.ensures c.add_chart.ensures (chart_facts b good l.to) c.closed_profile.result c.closed_profile.ensures)

@@ -1,6 +1,6 @@
 use Rattle.std.proofs.Common.{refl, ◌∙◌, arith}
 use Rattle.bookformat.specs.Books.{book_value}
-use Rattle.walk.proofs.Onward.{under_none, under_more, next_exists, gone_closed, gone_whole}
+use Rattle.walk.proofs.Onward.{under_none, under_more, gone_closed, gone_whole}
 use Rattle.walk.proofs.going.go_on.Goals as goal
 
 pub loop-steps-init : goal.loop-steps-init
@@ -11,9 +11,6 @@ returns-in_default g c = record {
   gone = gone_closed (book_value c.args.book.now) (g.R.Register.capacity c.args.register.now) (g.R.Register.rows c.args.register.now) c.args.phase c.args.budget c.loop-steps.steps (g.R.Register.rows c.loop-steps.register) c.loop-steps.at c.loop-steps.invariant.1 c.loop-steps-test.true c.in_default.not-Open;
   capacity = c.loop-steps.invariant.0;
 }
-
-pub step-at-requires : goal.step-at-requires
-step-at-requires g c = next_exists (book_value c.args.book.now) c.loop-steps.at c.in-Open.place c.in-Open.link c.in-Open.is c.loop-steps.invariant.1.exists
 
 pub loop-steps-preserved : goal.loop-steps-preserved
 loop-steps-preserved g c = (

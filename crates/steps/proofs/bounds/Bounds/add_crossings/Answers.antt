@@ -4,7 +4,7 @@ use Rattle.bookformat.specs.Rules.{unbounded}
 use Rattle.steps.specs.Fillings.{Adds}
 use Rattle.steps.specs.Parts.{CrossingKept}
 use Rattle.steps.proofs.Filled.{adds_more, adds_all}
-use Rattle.steps.proofs.Entered.{taken}
+use Rattle.fullchart.proofs.Listed.{taken}
 use Rattle.steps.proofs.bounds.Bounds.add_crossings.Goals as goal
 
 pub loop-p-preserved : goal.loop-p-preserved
