@@ -11,4 +11,3 @@ pub mod Taken
 pub mod GoodTaken
 pub mod Known
 pub mod Smallest
-pub mod Copies

@@ -1,3 +1,4 @@
+pub mod Bounded
 pub mod Refusals
 pub mod Values
 pub mod Books

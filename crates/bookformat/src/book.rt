@@ -1,19 +1,19 @@
 ghost use Rattle.bookformat.specs.Values.{value_of};
 ghost use Rattle.bookformat.specs.Rules.{GoodBook};
 
+use crate::bounded::Bounded;
 use crate::value::{Chart, Event, Kind, Link};
-use arrayvec::ArrayVec;
 use std::alloc::AllocError;
 
 /// A chart book that keeps every rule. The format's own limits size its storage.
-#[derive(Drop)]
+#[derive(Copy)]
 pub struct Book {
     pub stations: u8,
     pub first: u8,
     pub near: u16,
     pub far: u16,
-    pub charts: ArrayVec<Chart, 32>,
-    pub links: ArrayVec<Link, 128>,
+    pub charts: Bounded<Chart, 32>,
+    pub links: Bounded<Link, 128>,
     pub ghost good: { ∥ GoodBook (value_of stations first near far charts.items links.items) ∥₁ },
 }
 
@@ -26,14 +26,7 @@ impl Clone for Book {
     ghost is_infallible = { λ _. Unit {0} };
 
     fn clone(&self) -> Result<Book, AllocError> {
-        Ok(Book {
-            stations: self.stations,
-            first: self.first,
-            near: self.near,
-            far: self.far,
-            charts: self.charts.clone()?,
-            links: self.links.clone()?,
-        })
+        Ok(*self)
     }
 }
 
@@ -59,7 +52,7 @@ impl Book {
             kind: Kind::Receive,
             pair: 0,
         });
-        let mut charts = ArrayVec::new();
+        let mut charts = Bounded::new();
         charts.push(chart);
         Book {
             stations: 2,
@@ -67,7 +60,7 @@ impl Book {
             near: 0,
             far: 0,
             charts,
-            links: ArrayVec::new(),
+            links: Bounded::new(),
         }
     }
 

@@ -4,12 +4,14 @@
 ghost use Rattle.bookformat.specs.Laws.{TakenGood, GoodTaken, GoodRead};
 
 mod book;
+mod bounded;
 mod bytes;
 mod fault;
 mod value;
 
 pub use arrayvec::ArrayVec;
 pub use book::Book;
+pub use bounded::Bounded;
 pub use bytes::{LONGEST, UnknownKind};
 pub use fault::{Fault, Refusal};
 pub use value::{Chart, Constraint, Event, Interval, Kind, Link};

@@ -1,6 +1,6 @@
 ghost use Rattle.std.specs.Prelude.{◌≡◌};
 
-use arrayvec::ArrayVec;
+use crate::bounded::Bounded;
 use std::alloc::AllocError;
 
 /// What an event does on its station.
@@ -35,10 +35,10 @@ pub struct Constraint {
 }
 
 /// A message sequence chart with its times.
-#[derive(Default, Drop)]
+#[derive(Copy, Default)]
 pub struct Chart {
-    pub events: ArrayVec<Event, 40>,
-    pub constraints: ArrayVec<Constraint, 64>,
+    pub events: Bounded<Event, 40>,
+    pub constraints: Bounded<Constraint, 64>,
     pub is_final: bool,
 }
 
@@ -49,11 +49,7 @@ impl Clone for Chart {
     ghost is_infallible = { λ _. Unit {0} };
 
     fn clone(&self) -> Result<Chart, AllocError> {
-        Ok(Chart {
-            events: self.events.clone()?,
-            constraints: self.constraints.clone()?,
-            is_final: self.is_final,
-        })
+        Ok(*self)
     }
 }
 

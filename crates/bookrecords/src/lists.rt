@@ -5,10 +5,10 @@ ghost use Rattle.bookformat.specs.Reading.{Test, each};
 ghost use Rattle.bookrecords.specs.Answers.{Tested};
 
 use crate::records::Watch;
-use bookformat::{ArrayVec, Fault};
+use bookformat::{Bounded, Fault};
 
 /// What stands in lists of records of one size. `S` is what its tests go by besides the bytes.
-pub trait Listed<S>: Default + Drop {
+pub trait Listed<S>: Default + Copy {
     /// How many bytes a record has.
     const SIZE: usize;
 
@@ -39,13 +39,13 @@ pub fn read_list<T: Listed<S>, S, W: Watch, const N: usize>(
     count: usize,
     setting: &S,
     watch: &mut W,
-) -> Result<ArrayVec<T, N>, Fault>
+) -> Result<Bounded<T, N>, Fault>
     requires near { place ≤ 25000 }
     requires few { count ≤ 128 }
     requires room { count ≤ N }
     ensures { Tested result (each (λ k. T.tests book.now setting.now (place + T.SIZE * k)) count) (λ xs. xs.items ≡ records (T.at book.now) T.SIZE place count) }
 {
-    let mut list = ArrayVec::new();
+    let mut list = Bounded::new();
     // (By a record's number, from which its place is reckoned: there is no list of records yet.)
     for k in 0..count {
         let item = T::read(book, place + T::SIZE * k, k, setting, watch)?;

@@ -7,7 +7,7 @@ ghost use Rattle.std.proofs.Common.{rules};
 use crate::fields::{ChartHead, chart_head, constraint, event};
 use crate::lists::Listed;
 use crate::records::{CONSTRAINT_SIZE, EVENT_SIZE, RecordBytes, Watch, sized_record};
-use bookformat::{ArrayVec, Constraint, Event, Fault, Interval};
+use bookformat::{Bounded, Constraint, Event, Fault, Interval};
 
 pub fn read_head<W: Watch>(
     book: &[u8],
@@ -79,7 +79,7 @@ pub fn read_constraint<W: Watch>(
 }
 
 /// A constraint's tests go by the events of its chart.
-impl Listed<ArrayVec<Event, 40>> for Constraint {
+impl Listed<Bounded<Event, 40>> for Constraint {
     const SIZE: usize = CONSTRAINT_SIZE;
 
     ghost SIZE = { 6 };
@@ -94,7 +94,7 @@ impl Listed<ArrayVec<Event, 40>> for Constraint {
         book: &[u8],
         place: usize,
         number: usize,
-        events: &ArrayVec<Event, 40>,
+        events: &Bounded<Event, 40>,
         watch: &mut W,
     ) -> Result<Constraint, Fault> {
         read_constraint(book, place, number, events, watch)

@@ -3,16 +3,16 @@ use Rattle.std.proofs.Common.{◌≡◌, ℕ, ◌+◌, ◌*◌, List, [], ◌∷
 use Rattle.std.specs.List.{range_with_len}
 use Rattle.std.proofs.lemmas.List.FromFn.{map-range_with_len_more}
 use Rattle.std.proofs.lemmas.List.{map-append}
-use Rattle.arrayvec.specs.ArrayVec.{ArrayVec}
+use Rattle.bookformat.specs.Bounded.{Bounded}
 use Rattle.bookformat.specs.declared.value.Chart.{Chart}
 use Rattle.bookformat.specs.Values.{ChartValue, chart_value}
 use Rattle.bookformat.specs.Layout.{byte, chart_at, chart_place, constraints_place}
 use Rattle.chartbook.specs.Answers.{ChartRead, ChartsRead}
 
-pub charts_none : (b : List ℕ) (cs : ArrayVec Chart) → cs.items ≡ [] → ChartsRead b 0 cs 13
+pub charts_none : (b : List ℕ) (cs : Bounded Chart) → cs.items ≡ [] → ChartsRead b 0 cs 13
 charts_none b cs none = record { charts = ap (map chart_value) none; next_is = refl; near = omega arith }
 
-pub charts_more : (b : List ℕ) (k place next : ℕ) (cs cs' : ArrayVec Chart) (c : Chart) → ChartsRead b k cs place → cs'.items ≡ cs.items ++ c ∷ [] → ChartRead b place c next → ChartsRead b (k + 1) cs' next
+pub charts_more : (b : List ℕ) (k place next : ℕ) (cs cs' : Bounded Chart) (c : Chart) → ChartsRead b k cs place → cs'.items ≡ cs.items ++ c ∷ [] → ChartRead b place c next → ChartsRead b (k + 1) cs' next
 charts_more b k place next cs cs' c so_far pushed read = record {
   charts =
       ap (map chart_value) pushed ∙ map-append chart_value cs.items (c ∷ [])

@@ -4,7 +4,7 @@ ghost use Rattle.bookformat.specs.Reading.{each, event_tests, pair_tests, constr
 ghost use Rattle.bookrecords.specs.Answers.{Tested};
 ghost use Rattle.chartbook.specs.Answers.{AllPaired, ChartRead, ChartsRead, FirstUnpaired};
 
-use bookformat::{ArrayVec, Chart, Event, Fault};
+use bookformat::{Bounded, Chart, Event, Fault};
 use bookrecords::{
     CONSTRAINT_SIZE, EVENT_SIZE, EventSetting, HEAD_SIZE, Watch, is_paired, read_head, read_list,
 };
@@ -18,7 +18,7 @@ fn first_unpaired(events: &[Event]) -> Option<usize>
 }
 
 /// Tests each event's pairing, in turn; `place` is that of the first event record.
-fn check_pairs(events: &ArrayVec<Event, 40>, place: usize) -> Result<(), Fault>
+fn check_pairs(events: &Bounded<Event, 40>, place: usize) -> Result<(), Fault>
     requires { place ≤ 20003 }
     ensures { Tested result (each (pair_tests events.now.items place) (length events.now.items)) (λ _. Unit {0}) }
 {
@@ -73,11 +73,11 @@ pub fn read_charts<W: Watch>(
     count: usize,
     stations: u8,
     watch: &mut W,
-) -> Result<(ArrayVec<Chart, 32>, usize), Fault>
+) -> Result<(Bounded<Chart, 32>, usize), Fault>
     requires { count ≤ 32 }
     ensures { Tested result (each (λ k. chart_tests book.now stations (chart_place book.now k)) count) (λ c. ChartsRead book.now count c.0 c.1) }
 {
-    let mut charts = ArrayVec::new();
+    let mut charts = Bounded::new();
     let mut place = 13;
     // (By a chart's number: how many there are is read, and no list of them stands yet.)
     for k in 0..count {

@@ -6,7 +6,7 @@ mod links;
 mod reader;
 
 pub use bookformat::{
-    ArrayVec, Book, Chart, Constraint, Event, Fault, Interval, Kind, Link, Refusal,
+    ArrayVec, Book, Bounded, Chart, Constraint, Event, Fault, Interval, Kind, Link, Refusal,
 };
 pub use bookrecords::{RecordBytes, Unwatched, Watch, record};
 pub use reader::{read_book, read_watched};

@@ -5,7 +5,7 @@ ghost use Rattle.bookformat.specs.Reading.{each, is_apart, station_tests, link_t
 ghost use Rattle.bookrecords.specs.Answers.{Tested};
 ghost use Rattle.std.proofs.Common.{rules};
 
-use bookformat::{ArrayVec, Chart, Event, Fault, Interval, Link};
+use bookformat::{Bounded, Chart, Event, Fault, Interval, Link};
 use bookrecords::{
     Header, LINK_SIZE, Listed, RecordBytes, Watch, check_ends, check_interval, is_apart,
     sized_record,
@@ -15,7 +15,7 @@ use bookrecords::{
 #[derive(Drop)]
 pub struct Front {
     pub header: Header,
-    pub charts: ArrayVec<Chart, 32>,
+    pub charts: Bounded<Chart, 32>,
 }
 
 /// The intervals in the record of a link between charts with such events.

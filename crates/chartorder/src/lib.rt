@@ -8,7 +8,7 @@ ghost use Rattle.closure.specs.Befores.{before_meaning};
 ghost use Rattle.closure.specs.Closings.{entry};
 ghost use Rattle.chartorder.specs.Orders.{link_of, NoLoop};
 
-use bookformat::{ArrayVec, Event, Kind};
+use bookformat::{Bounded, Event, Kind};
 use closure::{Before, Table};
 
 /// Is event `second` listed later on the station of event `first`, or its receive?
@@ -54,7 +54,7 @@ fn close_in(storage: &mut [Before], events: &[Event]) -> bool
 }
 
 /// Does no event of a chart come before itself?
-pub fn is_acyclic(events: &ArrayVec<Event, 40>) -> bool
+pub fn is_acyclic(events: &Bounded<Event, 40>) -> bool
     ensures { Decides result (Acyclic events.now.items) }
 {
     let mut storage = [Before::Unlinked; 1600];

@@ -74,7 +74,7 @@ fn raise_constraints(dates: &mut [u32], first: usize, constraints: &[Constraint]
 fn least_near(book: &Book, full: &FullChart, e: usize, f: usize, date: u32) -> u32
     ensures { result ≡ date - drift_of (book_value book.now) (nat_lt e full.now.working) (nat_lt f full.now.working) }
 {
-    date.saturating_sub(u32::from(full.drift(book, e, f)))
+    date.saturating_sub(u32::from(full.drift_in(book, e, f)))
 }
 
 // No event is dated further before e than their drift bound.

@@ -1,7 +1,7 @@
 -- The first and the last place of a station in a list of stations.
 use Rattle.std.specs.Prelude.{◌≡◌, ℕ, ◌+◌, ◌<◌, ◌≤◌, List, ◌++◌, map, length, take, Some, None, filter, Option, ◌≢◌, slice_index}
 use Rattle.std.specs.List.{range_with_len}
-use Rattle.arrayvec.specs.ArrayVec.{ArrayVec, array_vec_len}
+use Rattle.bookformat.specs.Bounded.{Bounded, bounded_len}
 use Rattle.bookformat.specs.declared.value.Event.{Event}
 use Rattle.bookformat.specs.Reading.{is_silent}
 use Rattle.bookformat.specs.Values.{ChartValue, BookValue}
@@ -30,11 +30,11 @@ pub record IsFull (b : BookValue) (c : ChartValue) (f : FullChart) : Type 0 wher
   pub working : f.working ≡ length c.events
 
 -- the stations of the first n events
-pub record WorkingHeld (es : List Event) (n : ℕ) (s : ArrayVec ℕ) : Type 0 where
+pub record WorkingHeld (es : List Event) (n : ℕ) (s : Bounded ℕ) : Type 0 where
   pub held_are : s.items ≡ map (λ (e : Event). e.station) (take n es)
-  pub count : array_vec_len s ≡ n
+  pub count : bounded_len s ≡ n
 
 -- and after them the silent stations below a number
-pub record SilentAdded (s t : ArrayVec ℕ) (es : List Event) (n : ℕ) : Type 0 where
+pub record SilentAdded (s t : Bounded ℕ) (es : List Event) (n : ℕ) : Type 0 where
   pub held_are : t.items ≡ s.items ++ filter (is_silent es) (range_with_len 0 n)
-  pub count : array_vec_len t ≤ array_vec_len s + n
+  pub count : bounded_len t ≤ bounded_len s + n

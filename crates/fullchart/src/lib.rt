@@ -1,7 +1,7 @@
 //! The full chart: the working events, and an event for each silent station.
 #![tactic(auto)]
 
-ghost use Rattle.arrayvec.specs.ArrayVec.{array_vec_len};
+ghost use Rattle.bookformat.specs.Bounded.{bounded_len};
 ghost use Rattle.std.specs.Prelude.{◌≡◌, ◌<◌, ◌≤◌, length, nat_lt};
 ghost use Rattle.bookformat.specs.Values.{BookValue, chart_value};
 ghost use Rattle.bookformat.specs.Books.{book_value};
@@ -9,13 +9,13 @@ ghost use Rattle.bookformat.specs.Rules.{chart};
 ghost use Rattle.paths.specs.Datings.{drift_of};
 ghost use Rattle.fullchart.specs.Finds.{FirstOn, LastOn, WorkingHeld, SilentAdded, IsFull};
 
-use bookformat::{ArrayVec, Book, Chart, Event};
+use bookformat::{Book, Bounded, Chart, Event};
 use bookrecords::is_silent;
 
 /// The stations of a full chart's events, by event number, and how many of them are working ones.
-#[derive(Clone, Drop)]
+#[derive(Clone, Copy)]
 pub struct FullChart {
-    pub stations: ArrayVec<u8, 48>,
+    pub stations: Bounded<u8, 48>,
     pub working: usize,
 }
 
@@ -34,11 +34,11 @@ pub fn last_on(stations: &[u8], station: u8) -> Option<usize>
 }
 
 /// The stations of the working events.
-fn working_stations(events: &[Event]) -> ArrayVec<u8, 48>
+fn working_stations(events: &[Event]) -> Bounded<u8, 48>
     requires { length events.now ≤ 40 }
     ensures { WorkingHeld events.now (length events.now) result }
 {
-    let mut stations = ArrayVec::new();
+    let mut stations = Bounded::new();
     for e in events {
         stations.push(e.station);
     }
@@ -46,8 +46,8 @@ fn working_stations(events: &[Event]) -> ArrayVec<u8, 48>
 }
 
 /// One event more for each station that is silent.
-fn add_silent(stations: &mut ArrayVec<u8, 48>, events: &[Event], count: u8)
-    requires { (count ≤ 8) × (array_vec_len stations.old ≤ 40) }
+fn add_silent(stations: &mut Bounded<u8, 48>, events: &[Event], count: u8)
+    requires { (count ≤ 8) × (bounded_len stations.old ≤ 40) }
     ensures { SilentAdded stations.old stations.new events.now count }
 {
     // (By the numbers of stations, which the book counts and no list holds.)
@@ -60,7 +60,7 @@ fn add_silent(stations: &mut ArrayVec<u8, 48>, events: &[Event], count: u8)
 
 impl FullChart {
     /// The full chart of a chart among so many stations, of whatever book.
-    pub fn among(stations: u8, chart: &Chart) -> FullChart
+    pub fn of(stations: u8, chart: &Chart) -> FullChart
         requires { stations ≤ 8 }
         ensures { (b : BookValue) → b.stations ≡ stations → IsFull b (chart_value chart.now) result }
     {
@@ -74,10 +74,10 @@ impl FullChart {
     }
 
     /// The full chart of a chart of the book.
-    pub fn of(book: &Book, chart: &Chart) -> FullChart
+    pub fn in_book(book: &Book, chart: &Chart) -> FullChart
         ensures { IsFull (book_value book.now) (chart_value chart.now) result }
     {
-        FullChart::among(book.stations, chart)
+        FullChart::of(book.stations, chart)
     }
 
     /// The full chart of the chart with a number.
@@ -85,7 +85,7 @@ impl FullChart {
         requires { number < length (book_value book.now).charts }
         ensures { IsFull (book_value book.now) (chart (book_value book.now) number) result }
     {
-        FullChart::of(book, book.chart(number))
+        FullChart::in_book(book, book.chart(number))
     }
 
     /// How many events it has.
@@ -95,8 +95,8 @@ impl FullChart {
         self.stations.as_slice().len()
     }
 
-    /// Which of two drift bounds, of whatever book, holds for two of its events: near for two working ones, else far.
-    pub fn nearer(&self, near: u16, far: u16, e: usize, f: usize) -> u16
+    /// The drift bound of two of its events, of whatever book has these two: near for two working ones, else far.
+    pub fn drift(&self, near: u16, far: u16, e: usize, f: usize) -> u16
         ensures { (b : BookValue) → b.near ≡ near → b.far ≡ far → result ≡ drift_of b (nat_lt e self.now.working) (nat_lt f self.now.working) }
     {
         if e < self.working && f < self.working {
@@ -106,10 +106,10 @@ impl FullChart {
         }
     }
 
-    /// The drift bound of two of its events.
-    pub fn drift(&self, book: &Book, e: usize, f: usize) -> u16
+    /// The drift bound of two of its events, in the book.
+    pub fn drift_in(&self, book: &Book, e: usize, f: usize) -> u16
         ensures { result ≡ drift_of (book_value book.now) (nat_lt e self.now.working) (nat_lt f self.now.working) }
     {
-        self.nearer(book.near, book.far, e, f)
+        self.drift(book.near, book.far, e, f)
     }
 }

@@ -10,7 +10,7 @@ ghost use Rattle.judge.specs.Walking.{CountChecked};
 use crate::judgement::Judgement;
 use bookformat::Fault;
 use routes::{BookPath, Stop};
-use rules::{DatedChart, keeps_chart, keeps_link};
+use rules::{DatedChart, keeps_chart, keeps_link_in};
 
 /// A path with a date for each of its events.
 #[derive(Clone, Copy)]
@@ -64,7 +64,7 @@ impl<'a> DatedPath<'a> {
     {
         let before = dated_chart(left, self.dates);
         let after = dated_chart(entered, self.dates);
-        keeps_link(self.path.book, self.path.link(position), &before, &after)
+        keeps_link_in(self.path.book, self.path.link(position), &before, &after)
     }
 
     /// Does the chart after a position break no rule?

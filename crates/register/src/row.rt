@@ -1,10 +1,14 @@
 // Rows, and what makes two rows the same.
-ghost use Rattle.std.specs.Prelude.{◌≡◌, Decides};
+ghost use Rattle.std.specs.Prelude.{◌≡◌, nat_eq, Decides};
+ghost use Rattle.std.specs.Ordering.{int_eq, on, eq_of_both};
+ghost use Rattle.std.specs.Cmp.Lexicographic.{pointwise};
+ghost use Rattle.std.specs.Cmp.Rules.{comparing};
+ghost use Rattle.std.proofs.Common.{rules};
 
 use profile::Profile;
 
 /// The identity of a row: two rows with one class count as one row.
-#[derive(Clone, Copy, PartialEq, Eq, Debug)]
+#[derive(Clone, Copy, Eq, Debug)]
 pub struct Class {
     pub chart: u8,
     pub profile: Profile,
@@ -24,9 +28,23 @@ pub struct Row {
     pub origin: Option<Origin>,
 }
 
+// (By hand: a derived `==` computes the same, and does not say that it decides whether they are one class.)
+impl PartialEq for Class {
+    ghost eq = { eq_of_both (on (λ c. c.chart) nat_eq) (on (λ c. c.profile.entries) (pointwise int_eq)) };
+
+    ghost laws = { Prim.search (comparing, rules) };
+
+    /// Are they the same class?
+    fn eq(&self, other: &Class) -> bool
+        ensures computed { result ≡ eq_of_both (on (λ c. c.chart) nat_eq) (on (λ c. c.profile.entries) (pointwise int_eq)) self.now other.now }
+        ensures decides { Decides result (self.now ≡ other.now) }
+    {
+        self.chart == other.chart && self.profile == other.profile
+    }
+}
+
 impl Row {
     /// Does the row count as one row with each other row of that class?
-    #[tactic(auto, using(crate::proofs::Equal::class_eq_decides))]
     pub fn is_of(&self, class: &Class) -> bool
         ensures { Decides result (self.now.class ≡ class.now) }
     {

@@ -1,16 +1,24 @@
 // The numbers of a report.
-ghost use Rattle.std.specs.Prelude.{◌≤◌, length, decimal};
+ghost use Rattle.std.specs.Prelude.{◌≡◌, ◌≤◌, length, decimal};
 ghost use Rattle.report.specs.Reports.{spaced, link_text, dates_text};
 
 use crate::sinks::Sink;
 use itoa::Buffer;
+
+/// The digits of a number, in a buffer that is handed in.
+fn digits(buffer: &mut Buffer, n: u64) -> &[u8]
+    ensures { result.now ≡ decimal n }
+{
+    buffer.format(n).as_bytes()
+}
 
 /// Puts the digits of a number.
 pub fn put_number<S: Sink>(sink: &mut S, n: u64)
     requires { length (decimal n) ≤ S.room sink.old }
     ensures { S.Took sink.old (decimal n) sink.new }
 {
-    sink.put(Buffer::new().format(n).as_bytes());
+    let mut buffer = Buffer::new();
+    sink.put(digits(&mut buffer, n));
 }
 
 /// Puts a number with a space before it.

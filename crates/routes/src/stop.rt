@@ -2,7 +2,7 @@ use bookformat::Book;
 use fullchart::FullChart;
 
 /// A chart on a path: its number, its full chart, and the place of its first date among those of the path.
-#[derive(Clone, Drop)]
+#[derive(Clone, Copy)]
 pub struct Stop {
     pub number: usize,
     pub full: FullChart,

@@ -81,7 +81,7 @@ fn is_in_drift(book: &Book, dated: &DatedChart, e: usize, f: usize) -> bool
     requires { (e < length dated.now.dates.now) × (f < length dated.now.dates.now) }
     ensures { Decides result (InDrift (book_value book.now) dated.now.full.now.working dated.now.dates.now e f) }
 {
-    let bound = dated.full.drift(book, e, f);
+    let bound = dated.full.drift_in(book, e, f);
     u64::from(dated.dates[e]) <= u64::from(dated.dates[f]) + u64::from(bound)
 }
 
@@ -113,16 +113,16 @@ fn keeps_station(interval: Interval, station: u8, before: &DatedChart, after: &D
 }
 
 /// Does each interval of the link hold, between the chart that it leaves and the one that it enters?
-pub fn keeps_link(book: &Book, link: &Link, before: &DatedChart, after: &DatedChart) -> bool
+pub fn keeps_link_in(book: &Book, link: &Link, before: &DatedChart, after: &DatedChart) -> bool
     requires left { IsFull (book_value book.now) (chart (book_value book.now) link.now.from) before.now.full.now }
     requires entered { IsFull (book_value book.now) (chart (book_value book.now) link.now.to) after.now.full.now }
     ensures { Decides result (KeepsLink (book_value book.now) link.now (chart (book_value book.now) link.now.from) (chart (book_value book.now) link.now.to) (date before.now.dates.now) (date after.now.dates.now)) }
 {
-    keeps_intervals(book.stations, link, before, after)
+    keeps_link(book.stations, link, before, after)
 }
 
 /// Does each interval of the link hold for so many stations, in whatever book has so many, between two charts of it?
-pub fn keeps_intervals(stations: u8, link: &Link, before: &DatedChart, after: &DatedChart) -> bool
+pub fn keeps_link(stations: u8, link: &Link, before: &DatedChart, after: &DatedChart) -> bool
     requires { stations ≤ 8 }
     ensures { (b : BookValue) (c d : ChartValue) → b.stations ≡ stations → IsFull b c before.now.full.now → IsFull b d after.now.full.now → Decides result (KeepsLink b link.now c d (date before.now.dates.now) (date after.now.dates.now)) }
 {

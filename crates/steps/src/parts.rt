@@ -62,7 +62,7 @@ impl<'a> Bounds<'a> {
         requires inside { (first + e < places self.old) × (first + f < places self.old) }
         ensures { Adds self.old self.new (AtMost (first + f) (first + e) (pos (drift_of (book_value book.now) (nat_lt e full.now.working) (nat_lt f full.now.working)))) }
     {
-        let bound = full.drift(book, e, f);
+        let bound = full.drift_in(book, e, f);
         self.tighten(first + f, first + e, i32::from(bound));
     }
 

@@ -1,5 +1,5 @@
 // The pairs of a row and a link from its chart, in their order.
-ghost use Rattle.std.specs.Prelude.{◌≡◌, ◌≤◌, length};
+ghost use Rattle.std.specs.Prelude.{◌≡◌, ◌≤◌, length, Decides};
 ghost use Rattle.bookformat.specs.Rules.{chart as chart_numbered};
 ghost use Rattle.bookformat.specs.Books.{book_value};
 ghost use Rattle.register.specs.Meaning.{row_at};
@@ -8,7 +8,7 @@ ghost use Rattle.classes.specs.Ranged.{ranged};
 ghost use Rattle.history.specs.Views.{phase_of, rows_of};
 ghost use Rattle.walk.specs.Trying.{Alike, FirstFrom};
 
-use bookformat::Book;
+use bookformat::{Book, Link};
 use history::Phase;
 use register::{Class, Profile, Register, Row};
 
@@ -37,12 +37,19 @@ pub fn is_final(book: &Book, number: u8) -> bool
         .is_some_and(|chart| chart.is_final)
 }
 
+/// Does the link begin at a chart?
+fn begins_at(link: &Link, chart: u8) -> bool
+    ensures { Decides result (link.now.from ≡ chart) }
+{
+    link.from == chart
+}
+
 /// The first link, from the one with the number `start` on, that begins at a chart.
 fn link_from(book: &Book, chart: u8, start: usize) -> Option<u8>
     ensures { FirstFrom (book_value book.now) chart start result }
 {
     let links = book.links.get(start..)?;
-    let ahead = links.iter().position(|link| link.from == chart)?;
+    let ahead = links.iter().position(|link| begins_at(link, chart))?;
     Some((start + ahead) as u8)
 }
 

@@ -1,5 +1,5 @@
 use Rattle.std.proofs.Common.{◌≡◌, ◌+◌, ◌*◌, None}
-use Rattle.arrayvec.specs.ArrayVec.{array_vec_len}
+use Rattle.bookformat.specs.Bounded.{bounded_len}
 use Rattle.bookformat.specs.Layout.{records}
 use Rattle.bookformat.specs.Reading.{first_fault, each}
 use Rattle.bookrecords.proofs.lists.read_list.Given as goal
@@ -8,4 +8,4 @@ abbrev pub invariant-loop-k : goal.invariant-loop-k
 invariant-loop-k g l =
     (first_fault (each (λ k. g.T.Listed.tests l.book l.setting (l.place + g.T.Listed.SIZE * k)) l.k) ≡ None)
     × (l.list.items ≡ records (g.T.Listed.at l.book) g.T.Listed.SIZE l.place l.k)
-    × (array_vec_len l.list ≡ l.k)
+    × (bounded_len l.list ≡ l.k)

@@ -1,5 +1,5 @@
 use Rattle.std.proofs.Common.{◌≡◌, None}
-use Rattle.arrayvec.specs.ArrayVec.{array_vec_len}
+use Rattle.bookformat.specs.Bounded.{bounded_len}
 use Rattle.bookformat.specs.Layout.{chart_place}
 use Rattle.bookformat.specs.Reading.{first_fault, each, chart_tests}
 use Rattle.chartbook.specs.Answers.{ChartsRead}
@@ -9,4 +9,4 @@ abbrev pub invariant-loop-k : goal.invariant-loop-k
 invariant-loop-k g l =
     (first_fault (each (λ k. chart_tests l.book l.stations (chart_place l.book k)) l.k) ≡ None)
     × ChartsRead l.book l.k l.charts l.place
-    × (array_vec_len l.charts ≡ l.k)
+    × (bounded_len l.charts ≡ l.k)

@@ -14,8 +14,8 @@ dated_chart-after-requires c =
     let path = c.args.self.now.path in
     entered_fits (book_value path.book.now) (is_good path.book.now) path.links.now c.args.self.now.dates.now c.args.self.now.count c.args.position c.args.left.now c.args.entered.now c.requires.inside c.requires.left c.requires.entered
 
-pub keeps_link-requires : goal.keeps_link-requires
-keeps_link-requires c =
+pub keeps_link_in-requires : goal.keeps_link_in-requires
+keeps_link_in-requires c =
     let path = c.args.self.now.path in
     record {
       left =
@@ -30,4 +30,4 @@ pub returns : goal.returns
 returns c =
     let path = c.args.self.now.path in
     link_decided (book_value path.book.now) (is_good path.book.now) path.links.now c.args.self.now.dates.now c.args.self.now.count c.args.position c.args.left.now c.args.entered.now c.requires.inside c.requires.left c.requires.entered
-    c.link.result.now c.link.ensures path.path c.dated_chart-before.result.dates.now c.dated_chart-after.result.dates.now c.dated_chart-before.ensures.dates c.dated_chart-after.ensures.dates c.keeps_link.result c.keeps_link.ensures
+    c.link.result.now c.link.ensures path.path c.dated_chart-before.result.dates.now c.dated_chart-after.result.dates.now c.dated_chart-before.ensures.dates c.dated_chart-after.ensures.dates c.keeps_link_in.result c.keeps_link_in.ensures

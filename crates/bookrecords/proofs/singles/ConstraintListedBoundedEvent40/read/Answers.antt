@@ -3,7 +3,7 @@ use Rattle.bookformat.specs.declared.value.Event.{Event}
 use Rattle.bookformat.specs.Layout.{constraint_at}
 use Rattle.bookformat.specs.Reading.{constraint_tests}
 use Rattle.bookrecords.specs.Answers.{Tested}
-use Rattle.bookrecords.proofs.singles.ConstraintListedArrayVecEvent40.read.Goals as goal
+use Rattle.bookrecords.proofs.singles.ConstraintListedBoundedEvent40.read.Goals as goal
 
 pub returns : goal.returns
 returns g c =

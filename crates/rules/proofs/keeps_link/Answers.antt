@@ -4,7 +4,7 @@ use Rattle.bookformat.specs.Rules.{unbounded}
 use Rattle.paths.specs.Datings.{interval}
 use Rattle.fullchart.proofs.Listed.{taken}
 use Rattle.rules.specs.Checks.{StationKept}
-use Rattle.rules.proofs.keeps_intervals.Goals as goal
+use Rattle.rules.proofs.keeps_link.Goals as goal
 
 pub returns-then-not-keeps_station : goal.returns-then-not-keeps_station
 returns-then-not-keeps_station c =

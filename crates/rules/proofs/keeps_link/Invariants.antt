@@ -2,7 +2,7 @@ use Rattle.std.proofs.Common.{◌≡◌, ℕ, ◌<◌, ◌≤◌, drop}
 use Rattle.std.specs.Slice.Iter.{iter_rest}
 use Rattle.paths.specs.Datings.{interval}
 use Rattle.rules.specs.Checks.{StationKept}
-use Rattle.rules.proofs.keeps_intervals.Given as goal
+use Rattle.rules.proofs.keeps_link.Given as goal
 
 -- the intervals of the stations passed hold
 abbrev pub invariant-loop-station : goal.invariant-loop-station
