@@ -52,7 +52,7 @@ impl Book {
             kind: Kind::Receive,
             pair: 0,
         });
-        let mut charts = Bounded::new();
+        let mut charts = Bounded::default();
         charts.push(chart);
         Book {
             stations: 2,
@@ -60,7 +60,7 @@ impl Book {
             near: 0,
             far: 0,
             charts,
-            links: Bounded::new(),
+            links: Bounded::default(),
         }
     }
 

@@ -45,15 +45,26 @@ impl<T: Copy, const N: usize> Clone for Bounded<T, N> {
     }
 }
 
-impl<T: Copy + Default, const N: usize> Bounded<T, N> {
-    /// No items.
-    pub fn new() -> Bounded<T, N>
+impl<T: Copy, const N: usize> Bounded<T, N> {
+    /// No items; `blank` fills the storage.
+    pub fn new(blank: T) -> Bounded<T, N>
         ensures { result.items ≡ [] }
     {
         Bounded {
-            cells: [T::default(); N],
+            cells: [blank; N],
             len: 0,
         }
+    }
+
+    /// One item more, where there is room.
+    pub fn push(&mut self, item: T)
+        requires { bounded_len self.old < N }
+        ensures items { self.new.items ≡ self.old.items ++ item ∷ [] }
+        ensures len { bounded_len self.new ≡ bounded_len self.old + 1 }
+    {
+        let at = self.len;
+        self.cells[at] = item;
+        self.len = at + 1;
     }
 }
 
@@ -61,7 +72,7 @@ impl<T: Copy + Default, const N: usize> Default for Bounded<T, N> {
     ghost is_default = { λ v. v.items ≡ [] };
 
     fn default() -> Bounded<T, N> {
-        Bounded::new()
+        Bounded::new(T::default())
     }
 }
 
@@ -91,18 +102,5 @@ impl<T, const N: usize> Bounded<T, N> {
         ensures fits { result ≤ N }
     {
         self.as_slice().len()
-    }
-}
-
-impl<T: Copy, const N: usize> Bounded<T, N> {
-    /// One item more, where there is room.
-    pub fn push(&mut self, item: T)
-        requires { bounded_len self.old < N }
-        ensures items { self.new.items ≡ self.old.items ++ item ∷ [] }
-        ensures len { bounded_len self.new ≡ bounded_len self.old + 1 }
-    {
-        let at = self.len;
-        self.cells[at] = item;
-        self.len = at + 1;
     }
 }

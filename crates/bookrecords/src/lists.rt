@@ -45,7 +45,7 @@ pub fn read_list<T: Listed<S>, S, W: Watch, const N: usize>(
     requires room { count ≤ N }
     ensures { Tested result (each (λ k. T.tests book.now setting.now (place + T.SIZE * k)) count) (λ xs. xs.items ≡ records (T.at book.now) T.SIZE place count) }
 {
-    let mut list = Bounded::new();
+    let mut list = Bounded::default();
     // (By a record's number, from which its place is reckoned: there is no list of records yet.)
     for k in 0..count {
         let item = T::read(book, place + T::SIZE * k, k, setting, watch)?;

@@ -77,7 +77,7 @@ pub fn read_charts<W: Watch>(
     requires { count ≤ 32 }
     ensures { Tested result (each (λ k. chart_tests book.now stations (chart_place book.now k)) count) (λ c. ChartsRead book.now count c.0 c.1) }
 {
-    let mut charts = Bounded::new();
+    let mut charts = Bounded::default();
     let mut place = 13;
     // (By a chart's number: how many there are is read, and no list of them stands yet.)
     for k in 0..count {

@@ -3,6 +3,7 @@
 
 #[cfg(test)]
 mod tests {
+    use bookformat::Bounded;
     use chartbook::{Refusal, read_book};
     use std::test::Fail;
     use worked_books::COUNTDOWN;
@@ -155,5 +156,21 @@ mod tests {
             assert_eq!(rt; link.to, *to);
         }
         Ok(())
+    }
+
+    /// Items that are copied by `=` and have no default.
+    #[derive(Clone, Copy, Debug, PartialEq, Eq)]
+    enum Mark {
+        Thin,
+        Thick,
+    }
+
+    #[test]
+    fn a_list_asks_for_no_default(rt: HostRuntime) {
+        let mut marks: Bounded<Mark, 2> = Bounded::new(Mark::Thin);
+        assert_eq!(rt; marks.len(), 0);
+        marks.push(Mark::Thick);
+        assert_eq!(rt; marks.as_slice().len(), 1);
+        assert_eq!(rt; marks.first().copied(), Some(Mark::Thick));
     }
 }

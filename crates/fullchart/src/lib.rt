@@ -38,7 +38,7 @@ fn working_stations(events: &[Event]) -> Bounded<u8, 48>
     requires { length events.now ≤ 40 }
     ensures { WorkingHeld events.now (length events.now) result }
 {
-    let mut stations = Bounded::new();
+    let mut stations = Bounded::default();
     for e in events {
         stations.push(e.station);
     }

@@ -7,7 +7,7 @@ use Rattle.chartbook.proofs.ChartLists.{charts_none, charts_more}
 use Rattle.chartbook.proofs.charts.read_charts.Goals as goal
 
 pub loop-k-init : goal.loop-k-init
-loop-k-init g c = (refl, charts_none c.args.book.now c.new-charts.result c.new-charts.ensures, ap length c.new-charts.ensures)
+loop-k-init g c = (refl, charts_none c.args.book.now c.default-charts.result c.default-charts.ensures, ap length c.default-charts.ensures)
 
 pub returns-in_err-chart : goal.returns-in_err-chart
 returns-in_err-chart g c =

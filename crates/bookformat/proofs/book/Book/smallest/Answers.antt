@@ -7,4 +7,4 @@ use Rattle.bookformat.proofs.book.Book.smallest.Goals as goal
 pub invariant_of-result : goal.invariant_of-result
 invariant_of-result c =
     let charts : map chart_value c.push-3.new.self.items ≡ smallest_chart ∷ [] = search rules in
-    record { good = smallest_is c.push-3.new.self.items c.new.result.items charts c.new.ensures }
+    record { good = smallest_is c.push-3.new.self.items c.default.result.items charts c.default.ensures }
