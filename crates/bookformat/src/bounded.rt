@@ -11,27 +11,37 @@ use std::ops::DerefSlice;
 pub struct Bounded<T, const N: usize> {
     cells: [T; N],
     len: usize,
+    ghost within: { len ≤ N },
 }
 
 impl<T, const N: usize> Model for Bounded<T, N> {
     ghost use Rattle.std.specs.Prelude.{◌≡◌, ◌≤◌, ◌++◌, length, take, drop};
+    ghost use Rattle.std.specs.Coded.{le_prop};
     ghost use Rattle.std.proofs.Common.{arith, take-append-drop, length-take-le};
-    ghost use Rattle.bookformat.specs.Bounded.{Bounded as Items, bounded_code};
+    ghost use mathlib.Core.HLevel.{is_prop→PathP};
+    ghost use Rattle.bookformat.specs.Bounded.{Bounded as Items, bounded_code, take_fits};
 
-    ghost Value = { Items T };
+    ghost Value = { Items T N };
 
     ghost coded = { bounded_code T.code };
 
-    ghost view = { λ b. record { items = take b.len b.cells; spare = drop b.len b.cells } };
-
-    ghost invariant = { λ b. (b.len ≤ N) × (length b.cells ≡ N) };
-
-    ghost inverse = { λ v. record { cells = v.items ++ v.spare; len = length v.items } };
-
-    ghost inverse_ok = { λ b h i. record {
-      cells = take-append-drop b.len b.cells i;
-      len = length-take-le b.len b.cells (omega (arith, h.0, h.1)) i;
+    ghost view = { λ b. record {
+      items = take b.len b.cells;
+      spare = drop b.len b.cells;
+      fits = take_fits b.len N b.cells b.within;
     } };
+
+    ghost invariant = { λ b. length b.cells ≡ N };
+
+    ghost inverse = { λ v. record { cells = v.items ++ v.spare; len = length v.items; within = v.fits } };
+
+    ghost inverse_ok = { λ b h.
+        let len : length (take b.len b.cells) ≡ b.len = length-take-le b.len b.cells (omega (arith, h, b.within)) in
+        λ i. record {
+          cells = take-append-drop b.len b.cells i;
+          len = len i;
+          within = is_prop→PathP (λ j. len j ≤ N) (λ j. le_prop) (take_fits b.len N b.cells b.within) b.within i;
+        } };
 }
 
 // (Not derived, so that it says that a copy is the same.)

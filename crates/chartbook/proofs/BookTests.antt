@@ -27,7 +27,7 @@ module _ (b : List ℕ) (header : Header) (is : header ≡ header_at b) (header-
   charts_fail f here = to_charts ∙ fault_left (book_charts b) (book_links b ++ end) f (sym (ap first_fault charts_are) ∙ here)
 
   -- the charts that were read, and the place behind them
-  module _ (charts-passed : first_fault (each (λ k. chart_tests b header.stations (chart_place b k)) header.charts) ≡ None) (cs : Bounded Chart) (place : ℕ) (read : ChartsRead b header.charts cs place) where
+  module _ (charts-passed : first_fault (each (λ k. chart_tests b header.stations (chart_place b k)) header.charts) ≡ None) (cs : Bounded Chart 32) (place : ℕ) (read : ChartsRead b header.charts cs place) where
     to_links : first_fault (reading b) ≡ first_fault (book_links b ++ end)
     to_links = to_charts ∙ fault_right (book_charts b) (book_links b ++ end) (sym (ap first_fault charts_are) ∙ charts-passed)
 

@@ -9,10 +9,10 @@ use Rattle.bookformat.specs.Values.{ChartValue, chart_value}
 use Rattle.bookformat.specs.Layout.{byte, chart_at, chart_place, constraints_place}
 use Rattle.chartbook.specs.Answers.{ChartRead, ChartsRead}
 
-pub charts_none : (b : List ℕ) (cs : Bounded Chart) → cs.items ≡ [] → ChartsRead b 0 cs 13
+pub charts_none : (b : List ℕ) (cs : Bounded Chart 32) → cs.items ≡ [] → ChartsRead b 0 cs 13
 charts_none b cs none = record { charts = ap (map chart_value) none; next_is = refl; near = omega arith }
 
-pub charts_more : (b : List ℕ) (k place next : ℕ) (cs cs' : Bounded Chart) (c : Chart) → ChartsRead b k cs place → cs'.items ≡ cs.items ++ c ∷ [] → ChartRead b place c next → ChartsRead b (k + 1) cs' next
+pub charts_more : (b : List ℕ) (k place next : ℕ) (cs cs' : Bounded Chart 32) (c : Chart) → ChartsRead b k cs place → cs'.items ≡ cs.items ++ c ∷ [] → ChartRead b place c next → ChartsRead b (k + 1) cs' next
 charts_more b k place next cs cs' c so_far pushed read = record {
   charts =
       ap (map chart_value) pushed ∙ map-append chart_value cs.items (c ∷ [])

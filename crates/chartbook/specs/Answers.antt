@@ -15,7 +15,7 @@ pub record ChartRead (b : List ℕ) (place : ℕ) (c : Chart) (next : ℕ) : Typ
   pub near : next ≤ place + 507
 
 -- the first charts of a book, and the place behind them
-pub record ChartsRead (b : List ℕ) (count : ℕ) (cs : Bounded Chart) (next : ℕ) : Type 0 where
+pub record ChartsRead (b : List ℕ) (count : ℕ) (cs : Bounded Chart 32) (next : ℕ) : Type 0 where
   pub charts : map chart_value cs.items ≡ map (λ k. chart_at b (chart_place b k)) (range_with_len 0 count)
   pub next_is : next ≡ chart_place b count
   pub near : next ≤ 13 + 507 * count

@@ -1,6 +1,9 @@
 //! Tests of the reader of books. They stand in a crate of their own, since a crate with tests is proved twice.
 #![tactic(auto)]
 
+ghost use Rattle.std.specs.Prelude.{◌≤◌};
+ghost use Rattle.bookformat.specs.Bounded.{bounded_len};
+
 #[cfg(test)]
 mod tests {
     use bookformat::Bounded;
@@ -165,6 +168,11 @@ mod tests {
         Thick,
     }
 
+    // Whoever holds a list knows that it fits its room, and asks nothing of it.
+    fn fits(list: &Bounded<Mark, 2>)
+        ensures { bounded_len list.now ≤ 2 }
+    {}
+
     #[test]
     fn a_list_asks_for_no_default(rt: HostRuntime) {
         let mut marks: Bounded<Mark, 2> = Bounded::new(Mark::Thin);
@@ -172,5 +180,6 @@ mod tests {
         marks.push(Mark::Thick);
         assert_eq!(rt; marks.as_slice().len(), 1);
         assert_eq!(rt; marks.first().copied(), Some(Mark::Thick));
+        fits(&marks);
     }
 }

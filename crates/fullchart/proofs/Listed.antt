@@ -13,7 +13,7 @@ counting_more p n =
     ap (filter p) (sym (map-id (range_with_len 0 (n + 1)))) ∙ filter_of_map_range_with_len_more p (λ k. k) 0 n n (zero-add n)
     ∙ ap (λ (l : List ℕ). filter p l ++ cond (p n) (n ∷ []) []) (map-id (range_with_len 0 n))
 
-pub silent_more : (s a b : Bounded ℕ) (es : List Event) (n : ℕ) → is_silent es n ≡ true → SilentAdded s a es n → b.items ≡ a.items ++ n ∷ [] → bounded_len b ≡ bounded_len a + 1 → SilentAdded s b es (n + 1)
+pub silent_more : (s a b : Bounded ℕ 48) (es : List Event) (n : ℕ) → is_silent es n ≡ true → SilentAdded s a es n → b.items ≡ a.items ++ n ∷ [] → bounded_len b ≡ bounded_len a + 1 → SilentAdded s b es (n + 1)
 silent_more s a b es n is-so so_far pushed len = record {
   held_are =
       pushed ∙ ap (λ (l : List ℕ). l ++ n ∷ []) so_far.held_are ∙ append_assoc s.items (filter (is_silent es) (range_with_len 0 n)) (n ∷ [])
@@ -21,7 +21,7 @@ silent_more s a b es n is-so so_far pushed len = record {
   count = omega (arith, so_far.count);
 }
 
-pub silent_same : (s a : Bounded ℕ) (es : List Event) (n : ℕ) → is_silent es n ≡ false → SilentAdded s a es n → SilentAdded s a es (n + 1)
+pub silent_same : (s a : Bounded ℕ 48) (es : List Event) (n : ℕ) → is_silent es n ≡ false → SilentAdded s a es n → SilentAdded s a es (n + 1)
 silent_same s a es n not_so so_far = record {
   held_are =
       so_far.held_are

@@ -30,11 +30,11 @@ pub record IsFull (b : BookValue) (c : ChartValue) (f : FullChart) : Type 0 wher
   pub working : f.working ≡ length c.events
 
 -- the stations of the first n events
-pub record WorkingHeld (es : List Event) (n : ℕ) (s : Bounded ℕ) : Type 0 where
+pub record WorkingHeld (es : List Event) (n : ℕ) (s : Bounded ℕ 48) : Type 0 where
   pub held_are : s.items ≡ map (λ (e : Event). e.station) (take n es)
   pub count : bounded_len s ≡ n
 
 -- and after them the silent stations below a number
-pub record SilentAdded (s t : Bounded ℕ) (es : List Event) (n : ℕ) : Type 0 where
+pub record SilentAdded (s t : Bounded ℕ 48) (es : List Event) (n : ℕ) : Type 0 where
   pub held_are : t.items ≡ s.items ++ filter (is_silent es) (range_with_len 0 n)
   pub count : bounded_len t ≤ bounded_len s + n
