@@ -1,4 +1,4 @@
-//! Tests of the reader of books. They stand in a crate of their own, since a crate with tests is proved twice.
+//! Tests of the reader of books, and of the lists that books hold. They stand in a crate of their own, since a crate with tests is proved twice.
 #![tactic(auto)]
 
 ghost use Rattle.std.specs.Prelude.{◌≤◌};
