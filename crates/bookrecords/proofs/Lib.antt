@@ -1,4 +1,5 @@
 pub mod Exits
 pub mod HeaderTests
 pub mod Intervals
+pub mod Listing
 pub mod Parts

@@ -11,7 +11,7 @@ pub use fields::{
     ChartHead, Header, check_end, check_ends, check_interval, is_apart, is_paired, is_silent,
 };
 pub use headers::read_header;
-pub use lists::{Listed, read_list};
+pub use lists::{Listed, read_bounded, read_list};
 pub use records::{
     CONSTRAINT_SIZE, EVENT_SIZE, HEAD_SIZE, LINK_SIZE, RecordBytes, Unwatched, Watch, record,
     sized_record,

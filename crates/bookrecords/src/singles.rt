@@ -7,7 +7,7 @@ ghost use Rattle.std.proofs.Common.{rules};
 use crate::fields::{ChartHead, chart_head, constraint, event};
 use crate::lists::Listed;
 use crate::records::{CONSTRAINT_SIZE, EVENT_SIZE, RecordBytes, Watch, sized_record};
-use bookformat::{Bounded, Constraint, Event, Fault, Interval};
+use bookformat::{ArrayVec, Bounded, Constraint, Event, Fault, Interval};
 
 pub fn read_head<W: Watch>(
     book: &[u8],
@@ -98,5 +98,28 @@ impl Listed<Bounded<Event, 40>> for Constraint {
         watch: &mut W,
     ) -> Result<Constraint, Fault> {
         read_constraint(book, place, number, events, watch)
+    }
+}
+
+/// So do they where the kit's list holds the events.
+impl Listed<ArrayVec<Event, 40>> for Constraint {
+    const SIZE: usize = CONSTRAINT_SIZE;
+
+    ghost SIZE = { 6 };
+
+    ghost tests = { λ book events place. constraint_tests book events.items place };
+
+    ghost at = { constraint_at };
+
+    ghost short = { Prim.search rules };
+
+    fn read<W: Watch>(
+        book: &[u8],
+        place: usize,
+        number: usize,
+        events: &ArrayVec<Event, 40>,
+        watch: &mut W,
+    ) -> Result<Constraint, Fault> {
+        read_constraint(book, place, number, events.as_slice(), watch)
     }
 }

@@ -6,7 +6,7 @@ ghost use Rattle.chartbook.specs.Answers.{AllPaired, ChartRead, ChartsRead, Firs
 
 use bookformat::{Bounded, Chart, Event, Fault};
 use bookrecords::{
-    CONSTRAINT_SIZE, EVENT_SIZE, EventSetting, HEAD_SIZE, Watch, is_paired, read_head, read_list,
+    CONSTRAINT_SIZE, EVENT_SIZE, EventSetting, HEAD_SIZE, Watch, is_paired, read_bounded, read_head,
 };
 use chartorder::is_acyclic;
 
@@ -47,10 +47,10 @@ fn read_chart<W: Watch>(
         events: head.events,
     };
     let events_place = place + HEAD_SIZE;
-    let events = read_list(book, events_place, head.events, &setting, watch)?;
+    let events = read_bounded(book, events_place, head.events, &setting, watch)?;
     check_pairs(&events, events_place)?;
     let constraints_place = events_place + EVENT_SIZE * head.events;
-    let constraints = read_list(book, constraints_place, head.constraints, &events, watch)?;
+    let constraints = read_bounded(book, constraints_place, head.constraints, &events, watch)?;
     let is_sound = is_acyclic(&events);
     watch.order(number, is_sound);
     if !is_sound {

@@ -9,7 +9,7 @@ ghost use Rattle.chartbook.specs.Reads.{Reads};
 use crate::charts::read_charts;
 use crate::links::Front;
 use bookformat::{Book, Fault};
-use bookrecords::{LINK_SIZE, Unwatched, Watch, check_end, read_header, read_list};
+use bookrecords::{LINK_SIZE, Unwatched, Watch, check_end, read_bounded, read_header};
 
 /// Every record in reading order, each tested as it is read.
 fn read_records<W: Watch>(book: &[u8], watch: &mut W) -> Result<Book, Fault>
@@ -18,7 +18,7 @@ fn read_records<W: Watch>(book: &[u8], watch: &mut W) -> Result<Book, Fault>
     let header = read_header(book, watch)?;
     let (charts, place) = read_charts(book, header.charts, header.stations, watch)?;
     let front = Front { header, charts };
-    let links = read_list(book, place, header.links, &front, watch)?;
+    let links = read_bounded(book, place, header.links, &front, watch)?;
     check_end(book.len(), place + LINK_SIZE * header.links)?;
     Ok(Book {
         stations: header.stations,

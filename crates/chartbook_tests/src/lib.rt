@@ -1,12 +1,16 @@
-//! Tests of the reader of books, and of the lists that books hold. They stand in a crate of their own, since a crate with tests is proved twice.
+//! Tests of the reader of books, and of lists of their records. They stand in a crate of their own, since a crate with tests is proved twice.
 #![tactic(auto)]
 
 ghost use Rattle.std.specs.Prelude.{◌≤◌};
 ghost use Rattle.bookformat.specs.Bounded.{bounded_len};
+ghost use Rattle.bookformat.specs.Layout.{event_at};
+ghost use Rattle.bookformat.specs.Reading.{event_tests};
+ghost use Rattle.std.proofs.Common.{rules};
 
 #[cfg(test)]
 mod tests {
-    use bookformat::Bounded;
+    use bookformat::{ArrayVec, Bounded, Constraint, Event, Fault};
+    use bookrecords::{EVENT_SIZE, EventSetting, Listed, Unwatched, Watch, read_list};
     use chartbook::{Refusal, read_book};
     use std::test::Fail;
     use worked_books::COUNTDOWN;
@@ -181,5 +185,89 @@ mod tests {
         assert_eq!(rt; marks.as_slice().len(), 1);
         assert_eq!(rt; marks.first().copied(), Some(Mark::Thick));
         fits(&marks);
+    }
+
+    /// An event that `=` does not copy.
+    #[derive(Default, Drop)]
+    struct Noted {
+        event: Event,
+    }
+
+    impl Listed<EventSetting> for Noted {
+        const SIZE: usize = EVENT_SIZE;
+
+        ghost SIZE = { 3 };
+
+        ghost tests = { λ book setting place. event_tests book setting.stations setting.events place };
+
+        ghost at = { λ book place. record { event = event_at book place } };
+
+        ghost short = { Prim.search rules };
+
+        fn read<W: Watch>(
+            book: &[u8],
+            place: usize,
+            number: usize,
+            setting: &EventSetting,
+            watch: &mut W,
+        ) -> Result<Noted, Fault> {
+            let event = Event::read(book, place, number, setting, watch)?;
+            Ok(Noted { event })
+        }
+    }
+
+    #[test]
+    fn a_list_of_records_asks_for_no_copy(rt: HostRuntime) -> Result<(), Fail> {
+        let setting = EventSetting {
+            stations: 2,
+            events: 2,
+        };
+        let noted: ArrayVec<Noted, 2> = read_list(COUNTDOWN, 16, 2, &setting, &mut Unwatched)?;
+        assert_eq!(rt; noted.len(), 2);
+        for (note, station) in noted.iter().zip([0, 1].iter()) {
+            assert_eq!(rt; note.event.station, *station);
+        }
+        let narrow = EventSetting {
+            stations: 1,
+            events: 2,
+        };
+        let beyond: Result<ArrayVec<Noted, 2>, Fault> = read_list(
+            COUNTDOWN,
+            16,
+            2,
+            &narrow,
+            &mut Unwatched,
+        );
+        assert_eq!(rt;
+            beyond.err().map(Refusal::from),
+            Some(Refusal {
+                number: 5,
+                layer: 2,
+                place: 19,
+            })
+        );
+        Ok(())
+    }
+
+    #[test]
+    fn constraints_by_events_in_the_kits_list(rt: HostRuntime) -> Result<(), Fail> {
+        let setting = EventSetting {
+            stations: 2,
+            events: 2,
+        };
+        let events: ArrayVec<Event, 40> = read_list(COUNTDOWN, 16, 2, &setting, &mut Unwatched)?;
+        let constraints: ArrayVec<Constraint, 64> = read_list(
+            COUNTDOWN,
+            22,
+            1,
+            &events,
+            &mut Unwatched,
+        )?;
+        assert_eq!(rt; constraints.len(), 1);
+        for c in constraints.iter() {
+            assert_eq!(rt; (c.first, c.second), (0, 1));
+            assert_eq!(rt; (c.interval.lower, c.interval.upper), (3, Some(3)));
+        }
+        Ok(())
     }
 }
